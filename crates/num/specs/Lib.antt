@@ -1,0 +1,4 @@
+pub mod F64
+pub mod Helpers
+pub mod Choose
+pub mod Left
