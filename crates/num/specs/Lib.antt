@@ -2,3 +2,5 @@ pub mod F64
 pub mod Helpers
 pub mod Choose
 pub mod Left
+pub mod Numbers
+pub mod Leading

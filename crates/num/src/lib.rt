@@ -2,6 +2,8 @@
 ghost use mathlib.Core.Path.{_≡_};
 ghost use mathlib.Core.Bool.{_&&_, cond};
 ghost use mathlib.Core.List.{[], _∷_};
+ghost use lib.Ieee.{nan};
+ghost use Rattle.num.specs.F64.{infinity·};
 ghost use Rattle.num.specs.Helpers.{absOf, isFinite, maxOf, minOf, clampOf, powiOf, sumOf};
 
 // 0 - x is +0 at both zeros, and a NaN passes the test by.
@@ -87,4 +89,17 @@ pub fn sum_of_five(a: f64, b: f64, c: f64, d: f64, e: f64) -> f64
     ensures { λ r. ⌜ r ≡ sumOf (a ∷ b ∷ c ∷ d ∷ e ∷ []) ⌝ }
 {
     0.0 + a + b + c + d + e
+}
+
+// The two values that no literal writes.
+pub fn infinity() -> f64
+    ensures { λ r. ⌜ r ≡ infinity· ⌝ }
+{
+    f64::from_bits(0x7ff0_0000_0000_0000)
+}
+
+pub fn not_a_number() -> f64
+    ensures { λ r. ⌜ r ≡ nan ⌝ }
+{
+    0.0 / 0.0
 }

@@ -1,2 +1,11 @@
 pub mod Root
 pub mod Steps
+pub mod Squares
+pub mod Pencil
+pub mod Units
+pub mod Digits
+pub mod Tests
+pub mod Grid
+pub mod Middle
+pub mod Rounded
+pub mod Unique

@@ -1,5 +1,5 @@
 -- The steps of the square root: one binary digit of the result a step, as with a pencil.
-use mathlib.Core.Bool.{Bool, cond}
+use mathlib.Core.Bool.{cond}
 use Prim.Native.Nat.{ℕ, zero, suc, _+_, _-_, _*_, _/_, _%_, _^_}
 use lib.Dec.{leb, eqb}
 use lib.Count.{leadingZeros}

@@ -1,0 +1,18 @@
+-- `exp::low` meets its contract, by its test and its callees' contracts.
+use borrow.Author.Needs.{needs}
+use Rattle.num.specs.Choose.{choose}
+use Rattle.num.specs.Numbers.{above-number}
+use Rattle.elementary.specs.Exp.{expLow}
+use Rattle.elementary.proofs.exp.low.Statement.{statement}
+use Rattle.elementary.proofs.exp.low.Tie as tie
+
+pub low-spec : {M : Type 1} → statement M
+unfolding expLow
+low-spec =
+    tie.close
+    (tie.spec
+    (λ c. above-number _ _ (c .if1 .taken))
+    (λ c κs. search needs)
+    (λ c κs. search needs)
+    (λ c. rw (← c .before .reduced .ensures) (search choose))
+    (λ c. search choose))

@@ -1,0 +1,7 @@
+pub mod Series
+pub mod Exp
+pub mod Log
+pub mod Erfc
+pub mod Lgamma
+pub mod Cos
+pub mod Hypot

@@ -1,0 +1,145 @@
+// The exponential: rows of 2^(i/64) farther than 3/8 from zero, the power series nearer.
+ghost use mathlib.Core.Path.{_≡_};
+ghost use Rattle.elementary.specs.Exp.{expOf, expSmall, expReduced, expFar, expFinish, expLow, expBelow, expAbove};
+
+// 64 / ln 2, and 1.5 · 2^52 + 131072, which added to a number rounds it to a whole one.
+const EXP_INV: f64 = 92.33248261689366;
+
+const EXP_M: f64 = 6755399441186816.0;
+// The sum with EXP_M from which the result is infinite, and up to which it is zero.
+const EXP_HIGH: f64 = 6755399441252416.0;
+
+const EXP_LOW: f64 = 6755399441117888.0;
+// ln 2 / 64 in two parts. The first is short: its product with the whole number is exact.
+const EXP_L1: f64 = 0.010830424696223417;
+
+const EXP_L2: f64 = 2.572804622327669e-14;
+
+const EXP_C2: f64 = 0.49999999999947325;
+
+const EXP_C3: f64 = 0.16666666666657637;
+
+const EXP_C4: f64 = 0.04166672391594978;
+
+const EXP_C5: f64 = 0.008333342095952385;
+// 1 / n!
+const FACT2: f64 = 0.5;
+
+const FACT3: f64 = 0.16666666666666666;
+
+const FACT4: f64 = 0.041666666666666664;
+
+const FACT5: f64 = 0.008333333333333333;
+
+const FACT6: f64 = 0.001388888888888889;
+
+const FACT7: f64 = 0.0001984126984126984;
+
+const FACT8: f64 = 2.48015873015873e-05;
+
+const FACT9: f64 = 2.7557319223985893e-06;
+
+const FACT10: f64 = 2.755731922398589e-07;
+
+const FACT11: f64 = 2.505210838544172e-08;
+
+const FACT12: f64 = 2.08767569878681e-09;
+
+const FACT13: f64 = 1.6059043836821613e-10;
+
+const FACT14: f64 = 1.1470745597729725e-11;
+
+const P52: u64 = 0x10_0000_0000_0000;
+
+fn small(x: f64) -> f64
+    ensures { λ r. ⌜ r ≡ expSmall x ⌝ }
+{
+    let z = x * x;
+    let e = FACT2
+        + z * (FACT4 + z * (FACT6 + z * (FACT8 + z * (FACT10 + z * (FACT12 + z * FACT14)))));
+    let o = FACT3 + z * (FACT5 + z * (FACT7 + z * (FACT9 + z * (FACT11 + z * FACT13))));
+    let h = 1.0 + x;
+    let f = x - (h - 1.0);
+    h + (f + z * (e + x * o))
+}
+
+fn reduced(x: f64, w: f64) -> f64
+    ensures { λ r. ⌜ r ≡ expReduced x w ⌝ }
+{
+    let n = w - EXP_M;
+    (x - n * EXP_L1) - n * EXP_L2
+}
+
+fn far(t: f64, p: f64, e: u64) -> f64
+    ensures { λ r. ⌜ r ≡ expFar t p e ⌝ }
+{
+    if e < 900 {
+        return 0.0;
+    }
+    if 3100 < e {
+        return 0.0;
+    }
+    let a = e / 2;
+    let y = t + t * p;
+    (y * f64::from_bits((a - 1) * P52)) * f64::from_bits((e - a - 1) * P52)
+}
+
+fn finish(m: u64, r: f64) -> f64
+    ensures { λ y. ⌜ y ≡ expFinish m r ⌝ }
+{
+    let row = tables::exp_row(m % 64);
+    let e = m / 64;
+    let z = r * r;
+    let p = ((row.rest + r) + z * (EXP_C2 + r * EXP_C3)) + (z * z) * (EXP_C4 + r * EXP_C5);
+    if e < 1100 {
+        return far(row.value, p, e);
+    }
+    if 3070 < e {
+        return far(row.value, p, e);
+    }
+    let s = row.value * f64::from_bits((e - 1025) * P52);
+    s + s * p
+}
+
+// The exponential of x + lo, for an x below zero and a far smaller lo.
+pub fn low(x: f64, lo: f64) -> f64
+    ensures { λ r. ⌜ r ≡ expLow x lo ⌝ }
+{
+    let w = x * EXP_INV + EXP_M;
+    if EXP_LOW < w {
+        return finish(f64::to_bits(w) % 262144, reduced(x, w) + lo);
+    }
+    0.0
+}
+
+fn below(x: f64) -> f64
+    ensures { λ r. ⌜ r ≡ expBelow x ⌝ }
+{
+    let w = x * EXP_INV + EXP_M;
+    if EXP_LOW < w {
+        return finish(f64::to_bits(w) % 262144, reduced(x, w));
+    }
+    0.0
+}
+
+fn above(x: f64) -> f64
+    ensures { λ r. ⌜ r ≡ expAbove x ⌝ }
+{
+    let w = x * EXP_INV + EXP_M;
+    if w < EXP_HIGH {
+        return finish(f64::to_bits(w) % 262144, reduced(x, w));
+    }
+    num::infinity()
+}
+
+pub fn exp(x: f64) -> f64
+    ensures { λ r. ⌜ r ≡ expOf x ⌝ }
+{
+    if x < -0.375 {
+        return below(x);
+    }
+    if 0.375 < x {
+        return above(x);
+    }
+    small(x)
+}

@@ -1,0 +1,34 @@
+// The natural logarithm.
+ghost use mathlib.Core.Path.{_≡_};
+ghost use Rattle.elementary.specs.Log.{logOf, logSmall};
+
+const P52: u64 = 0x10_0000_0000_0000;
+
+// Below the least normal number. The significand is brought up by its leading zeros, and the exponent counts from so much more.
+fn small(x: f64) -> f64
+    ensures { λ r. ⌜ r ≡ logSmall x ⌝ }
+{
+    if 0.0 < x {
+        let m = f64::to_bits(x) % P52;
+        let s = u64::leading_zeros(m) - 11;
+        let r = crate::log_parts::parts(m << s, 1023.0 + s as f64);
+        return r.hi + r.lo;
+    }
+    if x == 0.0 {
+        return -num::infinity();
+    }
+    num::not_a_number()
+}
+
+pub fn log(x: f64) -> f64
+    ensures { λ r. ⌜ r ≡ logOf x ⌝ }
+{
+    if x < 2.2250738585072014e-308 {
+        return small(x);
+    }
+    if x < num::infinity() {
+        let r = crate::log_parts::parts(f64::to_bits(x), 1023.0);
+        return r.hi + r.lo;
+    }
+    x
+}

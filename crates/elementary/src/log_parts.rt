@@ -1,0 +1,59 @@
+// The logarithm in two parts, exact and small, which `log` and `lgamma` share: a row of logarithms and a polynomial.
+ghost use mathlib.Core.Path.{_≡_};
+ghost use Prim.Native.Nat.{_<_, _^_};
+ghost use Rattle.elementary.specs.Log.{logParts};
+
+// The bits of the least number that is reduced to itself, and of 1 less those.
+const LOG_OFF: u64 = 0x3fe6_5555_0000_0000;
+
+const LOG_D: u64 = 0x0009_aaab_0000_0000;
+// 1.5 · 2^10: added and taken away again it rounds to a multiple of 2^-42.
+const LOG_M: f64 = 1536.0;
+// ln 2 to a multiple of 2^-42, and the rest.
+const LOG_L1: f64 = 0.6931471805598903;
+
+const LOG_L2: f64 = 5.497923018708371e-14;
+
+const LOG_C2: f64 = -0.5000000000000063;
+
+const LOG_C3: f64 = 0.3333333333333411;
+
+const LOG_C4: f64 = -0.24999999941249676;
+
+const LOG_C5: f64 = 0.199999999383762;
+
+const LOG_C6: f64 = -0.16668224912205906;
+
+const LOG_C7: f64 = 0.14287196327371302;
+
+const P46: u64 = 0x4000_0000_0000;
+
+const P52: u64 = 0x10_0000_0000_0000;
+
+pub struct LogParts {
+    pub hi: f64,
+    pub lo: f64,
+}
+
+// b is the bits of a number above zero whose exponent counts from sub.
+pub fn parts(b: u64, sub: f64) -> LogParts
+    requires { ⌜ b < 2 ^ 63 ⌝ }
+    ensures { λ r. ⌜ r ≡ logParts b sub ⌝ }
+{
+    let t = b + LOG_D;
+    let frac = t % P52;
+    let k = ((t / P52) as u32) as f64 - sub;
+    let row = tables::log_row(frac / P46);
+    let z = f64::from_bits(frac + LOG_OFF);
+    let d = z - row.centre;
+    let p = d * row.inverse;
+    let rh = (p + LOG_M) - LOG_M;
+    let rl = (d - rh * row.centre) * row.inverse;
+    let q = p * p;
+    let g = q
+        * (((LOG_C2 + p * LOG_C3) + q * (LOG_C4 + p * LOG_C5)) + (q * q) * (LOG_C6 + p * LOG_C7));
+    LogParts {
+        hi: (k * LOG_L1 + row.high) + rh,
+        lo: ((k * LOG_L2 + row.low) + rl) + g,
+    }
+}

@@ -1,0 +1,104 @@
+-- What the steps give is the root, correctly rounded. With H half a unit in the result's last place, x is M · H², the pencil finds the root Q of M, rounded down,
+-- and the result is the even one of Q and Q + 1, times H.
+use mathlib.Core.Path.{_≡_, refl, sym, ap, _∙_, subst}
+use mathlib.Core.Bool.{Bool, true, false, cond}
+use Prim.Native.Nat.{ℕ, zero, suc, _+_, _-_, _*_, _/_, _%_, _^_, _≤_, _<_}
+use native.Mathlib.Nat.{mul-assoc, mul-left-comm, pow-succ'}
+use native.Mathlib.Omega.{arith}
+use borrow.Author.Tests.{eqb-true, eqb-false}
+use lib.Dec.{T, eqb}
+use lib.Pow.{pow-add, pow-pos}
+use lib.Ieee.{Float, nan, inf, fin, binary64, odd, fits, lt, ofFields, ofBits}
+use lib.Ieee.Bits.{ofBits-fits}
+use lib.Ieee.Exact.{HasValue}
+use Rattle.num.specs.F64.{bits, bitsOf}
+use Rattle.root.specs.Root.{units, Nearest, IsRoot}
+use Rattle.root.specs.Steps.{pencilOf, digits, power, rootBits, sqrtOf}
+use Rattle.root.specs.Pencil.{RootOf, pencil-law, pencil-ge, pencil-le}
+use Rattle.root.specs.Units.{units-is, plus-is, written, bits-read}
+use Rattle.root.specs.Digits.{Scaled, scaled, even-power}
+use Rattle.root.specs.Tests.{zero-not-above, zero-not-below, minus-not-above, minus-below, plus-above, finite-below, between}
+use Rattle.root.specs.Grid.{on-grid}
+use Rattle.root.specs.Middle.{lower, higher}
+
+-- x in units, times 2^1074, is M · H²
+scale : (m a : ℕ) → m * 2 ^ 54 * (2 ^ a * 2 ^ a) ≡ m * 2 ^ (54 + (a + a))
+scale m a = mul-assoc m (2 ^ 54) (2 ^ a * 2 ^ a) ∙ ap (λ (x : ℕ). m * x) (ap (λ (x : ℕ). 2 ^ 54 * x) (sym (pow-add 2 a a)) ∙ sym (pow-add 2 54 (a + a)))
+
+parts : (b : Bool) (d p : ℕ) → eqb (p % 2) 1 ≡ b → d * 2 ^ (p + 148) ≡ cond b (2 * d) d * 2 ^ (54 + (p / 2 + 47 + (p / 2 + 47)))
+parts true d p h =
+    let o = eqb-true (p % 2) 1 h in
+    let e : p + 148 ≡ suc (54 + (p / 2 + 47 + (p / 2 + 47))) = omega arith in
+    ap (λ (x : ℕ). d * 2 ^ x) e ∙ ap (λ (x : ℕ). d * x) (pow-succ' 2 _) ∙ mul-left-comm d 2 _ ∙ sym (mul-assoc 2 d _)
+parts false d p h =
+    let o = eqb-false (p % 2) 1 h in
+    let e : p + 148 ≡ 54 + (p / 2 + 47 + (p / 2 + 47)) = omega arith in
+    ap (λ (x : ℕ). d * 2 ^ x) e
+
+exact : (n d p : ℕ) → n * 2 ^ 926 ≡ d * 2 ^ p → n * 2 ^ 1074 ≡ cond (eqb (p % 2) 1) (2 * d) d * 2 ^ 54 * (2 ^ (p / 2 + 47) * 2 ^ (p / 2 + 47))
+exact n d p h =
+    sym (mul-assoc n (2 ^ 926) (2 ^ 148))
+    ∙ ap (λ (x : ℕ). x * 2 ^ 148) h
+    ∙ mul-assoc d (2 ^ p) (2 ^ 148)
+    ∙ ap (λ (x : ℕ). d * x) (sym (pow-add 2 p 148))
+    ∙ parts (eqb (p % 2) 1) d p refl
+    ∙ sym (scale (cond (eqb (p % 2) 1) (2 * d) d) (p / 2 + 47))
+
+near-by : (x r : Float) (Q q h M : ℕ) → T (fits binary64 r) → HasValue r false (2 * q * 2 ^ h) (2 ^ 1074) → q ≡ (Q + 1) / 2 → RootOf M Q → M % 2 ≡ 0 → 2 ^ 53 ≤ Q → units x * 2 ^ 1074 ≡ M * (2 ^ h * 2 ^ h) → Nearest x r
+near-by x r Q q h M f v rounds at even full e =
+    let u = units-is r (2 * q * 2 ^ h) v in
+    let w : 2 ^ 52 ≤ q = omega arith in
+    record {
+      an-f64 = f;
+      not-minus = plus-is r (2 * q * 2 ^ h) v;
+      above-lower = λ y a b l. rw (u, e) (lower Q q (2 ^ h) M (units y) rounds (pow-pos h) at even full (on-grid y q h a b w) (rw u at l));
+      below-higher = λ y a b l. rw (u, e) (higher Q q (2 ^ h) M (units y) rounds (pow-pos h) at even full (on-grid y q h a b w) (rw u at l));
+    }
+
+-- the result's bits: q under the exponent's field
+placed : (q h k : ℕ) → 2 ^ 52 ≤ q → q < 2 ^ 53 → k ≡ suc h → k < 2046 → HasValue (bits (q + k * 2 ^ 52)) false (2 * q * 2 ^ h) (2 ^ 1074)
+placed q h k l g e small =
+    let t = q - 2 ^ 52 in
+    let there : suc k * 2 ^ 52 + t ≡ q + k * 2 ^ 52 = omega arith in
+    let lead : 2 ^ 52 + t ≡ q = omega arith in
+    let much : (2 ^ 52 + t) * 2 ^ k ≡ 2 * q * 2 ^ h = ap (λ (x : ℕ). x * 2 ^ k) lead ∙ ap (λ (x : ℕ). q * 2 ^ x) e ∙ ap (λ (x : ℕ). q * x) (pow-succ' 2 h) ∙ mul-left-comm q 2 (2 ^ h) ∙ sym (mul-assoc 2 q (2 ^ h)) in
+    subst (λ (v : ℕ). HasValue (bits (q + k * 2 ^ 52)) false v (2 ^ 1074)) much
+    (subst (λ (b : ℕ). HasValue (bits b) false ((2 ^ 52 + t) * 2 ^ k) (2 ^ 1074)) there (written k t small (omega arith)))
+
+near : (x : Float) (d p : ℕ) → Scaled d p (units x) → Nearest x (bits (rootBits d p))
+near x d p s =
+    let m = cond (eqb (p % 2) 1) (2 * d) d in
+    let Q = pencilOf m in
+    let e = even-power (eqb (p % 2) 1) d (s .low) (s .high) in
+    let few : m < 2 ^ 54 = omega (arith, e .1) in
+    let full = pencil-ge m (e .0) few in
+    let top = pencil-le m (e .1) in
+    near-by x (bits (rootBits d p)) Q ((Q + 1) / 2) (p / 2 + 47) (m * 2 ^ 54) (ofBits-fits binary64 (rootBits d p))
+    (placed ((Q + 1) / 2) (p / 2 + 47) (p / 2 + 48) (omega (arith, full)) (omega (arith, top)) (omega arith) (omega (arith, s .within)))
+    refl
+    (pencil-law m few)
+    (omega arith)
+    full
+    (exact (units x) d p (s .same))
+
+no-number : sqrtOf nan ≡ nan
+unfolding sqrtOf lt ofBits ofFields odd
+no-number = refl
+
+infinite : (s : Bool) → sqrtOf (inf s) ≡ cond s nan (inf false)
+unfolding sqrtOf lt ofBits ofFields odd
+infinite true = refl
+infinite false = refl
+
+pub sqrt-is-root : (x : Float) → T (fits binary64 x) → IsRoot x (sqrtOf x)
+unfolding sqrtOf
+sqrt-is-root nan f = no-number
+sqrt-is-root (inf s) f = infinite s
+sqrt-is-root (fin s zero e) f = rw (zero-not-above s e, zero-not-below s e)
+sqrt-is-root (fin true (suc m) e) f = rw (minus-not-above (suc m) e, minus-below m e)
+sqrt-is-root (fin false (suc m) e) f =
+    let x = fin false (suc m) e in
+    let a = plus-above m e in
+    let b = finite-below (suc m) e in
+    let r = bits-read x f (between x a b) in
+    rw (a, b) (near x (digits (bitsOf x)) (power (bitsOf x)) (subst (λ (n : ℕ). Scaled (digits (bitsOf x)) (power (bitsOf x)) n) (sym (r .is)) (scaled (bitsOf x) (r .some) (r .finite))))
