@@ -1,12 +1,10 @@
 -- The exponential, step by step. A NaN passes both tests of `expOf` by, and comes through the series.
-use mathlib.Core.List.{[], _∷_}
 use mathlib.Core.Bool.{cond}
 use Prim.Native.Nat.{ℕ, _-_, _*_, _/_, _%_, _^_}
 use lib.Dec.{ltb}
 use lib.Ieee.{Float, neg, lt}
 use Rattle.num.specs.F64.{_⊕_, _⊖_, _⊗_, bits, bitsOf, zero·, one·, infinity·}
 use Rattle.tables.specs.Exp.{expRow}
-use Rattle.elementary.specs.Series.{series}
 
 -- 64 / ln 2
 abbrev pub exp-inv : Float
@@ -83,15 +81,17 @@ fact13 = bits 0x3de6_1246_13a8_6d09
 abbrev pub fact14 : Float
 fact14 = bits 0x3da9_3974_a8c0_7c9d
 
--- within 3/8 of zero: 1 + x + x² (E + x O), the power series to x^14 / 14!
+-- within 3/8 of zero: 1 + x + x² (P + x^8 Q), the power series to x^14 / 14!, with h + f for 1 + x
 abbrev pub expSmall : Float → Float
 expSmall x =
     let z = x ⊗ x in
-    let e = series (fact2 ∷ fact4 ∷ fact6 ∷ fact8 ∷ fact10 ∷ fact12 ∷ fact14 ∷ []) z in
-    let o = series (fact3 ∷ fact5 ∷ fact7 ∷ fact9 ∷ fact11 ∷ fact13 ∷ []) z in
+    let z2 = z ⊗ z in
+    let z4 = z2 ⊗ z2 in
+    let p = ((fact2 ⊕ x ⊗ fact3) ⊕ z ⊗ (fact4 ⊕ x ⊗ fact5)) ⊕ z2 ⊗ ((fact6 ⊕ x ⊗ fact7) ⊕ z ⊗ (fact8 ⊕ x ⊗ fact9)) in
+    let q = ((fact10 ⊕ x ⊗ fact11) ⊕ z ⊗ (fact12 ⊕ x ⊗ fact13)) ⊕ z2 ⊗ fact14 in
     let h = one· ⊕ x in
     let f = x ⊖ (h ⊖ one·) in
-    h ⊕ (f ⊕ z ⊗ (e ⊕ x ⊗ o))
+    h ⊕ (f ⊕ z ⊗ (p ⊕ z4 ⊗ q))
 
 -- what is left of x beside n ln 2 / 64, where w is n and exp-m
 abbrev pub expReduced : Float → Float → Float

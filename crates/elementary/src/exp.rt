@@ -55,12 +55,14 @@ fn small(x: f64) -> f64
     ensures { λ r. ⌜ r ≡ expSmall x ⌝ }
 {
     let z = x * x;
-    let e = FACT2
-        + z * (FACT4 + z * (FACT6 + z * (FACT8 + z * (FACT10 + z * (FACT12 + z * FACT14)))));
-    let o = FACT3 + z * (FACT5 + z * (FACT7 + z * (FACT9 + z * (FACT11 + z * FACT13))));
+    let z2 = z * z;
+    let z4 = z2 * z2;
+    let p = ((FACT2 + x * FACT3) + z * (FACT4 + x * FACT5))
+        + z2 * ((FACT6 + x * FACT7) + z * (FACT8 + x * FACT9));
+    let q = ((FACT10 + x * FACT11) + z * (FACT12 + x * FACT13)) + z2 * FACT14;
     let h = 1.0 + x;
     let f = x - (h - 1.0);
-    h + (f + z * (e + x * o))
+    h + (f + z * (p + z4 * q))
 }
 
 fn reduced(x: f64, w: f64) -> f64
