@@ -1,0 +1,8 @@
+// The normal distribution's logarithm and tail ratio, and a litter's conditional likelihood with its derivatives.
+pub mod mills;
+pub mod moments;
+
+pub use mills::LogMills;
+pub use mills::normal;
+pub use moments::ConditionalLog;
+pub use moments::conditional;
