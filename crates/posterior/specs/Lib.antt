@@ -1,0 +1,4 @@
+pub mod Side
+pub mod Integrand
+pub mod Bracket
+pub mod Mode
