@@ -1,1 +1,2 @@
 pub mod Legendre
+pub mod Pairs

@@ -1,3 +1,4 @@
 pub mod BracketLaws
 pub mod IntegrandLaws
 pub mod ModeLaws
+pub mod TailLaws

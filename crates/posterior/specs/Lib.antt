@@ -2,3 +2,4 @@ pub mod Side
 pub mod Integrand
 pub mod Bracket
 pub mod Mode
+pub mod Tail

@@ -1,11 +1,11 @@
 -- `legendre` meets its contract: the pairs written, with those still to come, are the whole rule.
-use mathlib.Core.Path.{_≡_, refl, _∙_}
+use mathlib.Core.Path.{_≡_, refl}
 use mathlib.Core.List.{List, [], _∷_, _++_, append-assoc, append-nil}
-use Prim.Native.Nat.{ℕ, suc, _+_, _-_, _≤_, _<_}
+use Prim.Native.Nat.{ℕ, _+_, _-_, _≤_, _<_}
 use native.Mathlib.Numerals.{add-one}
 use native.Mathlib.Omega.{arith}
 use borrow.Author.Needs.{needs}
-use lib.ListN.{length, take, set, length-set}
+use lib.ListN.{length, take, set}
 use lib.Seq.{take-all, take-suc-set}
 use Rattle.num.specs.Left.{left-one, left-none}
 use Rattle.legendre.specs.declared.Pair.{Pair}
