@@ -126,7 +126,8 @@ def log():
 
 
 def erfc_centre(middle):
-    """A multiple of 2^-24 near the middle whose erfc lies within 1/600 unit of an f64, so that the f64 alone will do; and that f64."""
+    """A multiple of 2^-24 near the middle whose erfc lies close to an f64, so that the f64 alone will do; and that f64.
+    The first within 1/600 unit of one, else the best of 1200."""
     base = int(middle * 2 ** 24)
     best = None
     for k in range(1200):

@@ -6,3 +6,4 @@ pub use mills::LogMills;
 pub use mills::normal;
 pub use moments::ConditionalLog;
 pub use moments::conditional;
+pub use moments::failures;

@@ -23,7 +23,7 @@ pub fn mills_derivatives(x: f64, r: f64) -> [f64; 4]
 }
 
 // More successes than pups count as no failure: a caller owes nothing.
-fn failures(successes: u32, total: u32) -> u32
+pub fn failures(successes: u32, total: u32) -> u32
     ensures { λ r. ⌜ r ≡ total - successes ⌝ }
 {
     if successes <= total {

@@ -1,0 +1,3 @@
+pub mod Coefficient
+pub mod Peak
+pub mod Quadrature
