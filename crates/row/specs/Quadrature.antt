@@ -1,5 +1,5 @@
 -- The integral and its derivatives' moments: sixteen nodes a panel, both sides of the mode, left side first, the panels doubled until two rules agree.
-use mathlib.Core.Bool.{Bool, true, false, not, _&&_, _||_, cond}
+use mathlib.Core.Bool.{Bool, true, false, not, _&&_, cond}
 use mathlib.Core.List.{List, [], _∷_}
 use Prim.Native.Nat.{ℕ, zero, suc, _+_, _^_}
 use lib.ListN.{getD, replicate}
@@ -63,21 +63,28 @@ sides here rule h m = do
   s ← panels here rule (h .log) (h .left) (widthOf (h .left) (h .mode) m) m 0 noSums
   panels here rule (h .log) (h .mode) (widthOf (h .mode) (h .right) m) m 0 s
 
--- a total that is not above zero, or a sum that is not finite
-unfoldable pub spoiledOf : List Float → Bool
-spoiledOf s =
-    not (isFinite (getD s 0 nan)) || (le (getD s 0 nan) zero· || (not (isFinite (getD s 1 nan)) || (not (isFinite (getD s 2 nan)) || (not (isFinite (getD s 3 nan)) || (not (isFinite (getD s 4 nan)) || not (isFinite (getD s 5 nan)))))))
+unfoldable pub finiteOf : List Float → Bool
+finiteOf s = isFinite (getD s 1 nan) && (isFinite (getD s 2 nan) && (isFinite (getD s 3 nan) && (isFinite (getD s 4 nan) && isFinite (getD s 5 nan))))
+
+-- every sum is finite, and the total, the first, is above zero
+unfoldable pub soundOf : List Float → Bool
+soundOf s = isFinite (getD s 0 nan) && cond (le (getD s 0 nan) zero·) false (finiteOf s)
+
+abbrev pub spoiledOf : List Float → Bool
+spoiledOf s = not (soundOf s)
 
 abbrev pub gapOf : Float → Float → Float → Float
 gapOf total s old = absOf (s ⊖ old) ⊘ (total ⊕ absOf s)
 
-abbrev gapAt : List Float → List Float → ℕ → Float
-gapAt s old i = gapOf (getD s 0 nan) (getD s i nan) (getD old i nan)
+abbrev pub largerOf : Float → Float → Float → Float → Float
+largerOf m total s old = maxOf m (gapOf total s old)
+
+abbrev gapAt : List Float → List Float → Float → ℕ → Float
+gapAt s old m i = largerOf m (getD s 0 nan) (getD s i nan) (getD old i nan)
 
 -- the largest relative move of a sum from the rule before
 unfoldable pub refinementOf : List Float → List Float → Float
-refinementOf s old =
-    let gap = gapAt s old in maxOf (maxOf (maxOf (maxOf (maxOf (maxOf zero· (gap 0)) (gap 1)) (gap 2)) (gap 3)) (gap 4)) (gap 5)
+refinementOf s old = let gap = gapAt s old in gap (gap (gap (gap (gap (gap zero· 0) 1) 2) 3) 4) 5
 
 -- 1e-11
 abbrev pub accepted : Float

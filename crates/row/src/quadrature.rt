@@ -3,7 +3,7 @@ use legendre::Pair;
 use posterior::integrand::Posterior;
 use work::Ending;
 ghost use mathlib.Core.Path.{_≡_};
-ghost use Rattle.row.specs.Quadrature.{addedOf, panelOf, sideOf, sidesOf, spoiledOf, gapOf, refinementOf, integralOf};
+ghost use Rattle.row.specs.Quadrature.{addedOf, panelOf, sideOf, sidesOf, finiteOf, soundOf, spoiledOf, largerOf, refinementOf, integralOf};
 
 // The interval of the integral, with the mode in it and the logarithm there.
 pub struct Hump {
@@ -134,45 +134,49 @@ fn sides(p: Posterior, rule: [Pair; 16], h: Hump, panels: u32) -> Sums
     )
 }
 
+fn finite_rest(sum: [f64; 6]) -> bool
+    ensures { λ r. ⌜ r ≡ finiteOf sum ⌝ }
+{
+    let a = num::both(num::is_finite(sum[4]), num::is_finite(sum[5]));
+    let b = num::both(num::is_finite(sum[3]), a);
+    let c = num::both(num::is_finite(sum[2]), b);
+    num::both(num::is_finite(sum[1]), c)
+}
+
+fn sound(sum: [f64; 6]) -> bool
+    ensures { λ r. ⌜ r ≡ soundOf sum ⌝ }
+{
+    if !num::is_finite(sum[0]) {
+        return false;
+    }
+    if sum[0] <= 0.0 {
+        return false;
+    }
+    finite_rest(sum)
+}
+
 fn spoiled(sum: [f64; 6]) -> bool
     ensures { λ r. ⌜ r ≡ spoiledOf sum ⌝ }
 {
-    if !num::is_finite(sum[0]) {
-        return true;
-    }
-    if sum[0] <= 0.0 {
-        return true;
-    }
-    if !num::is_finite(sum[1]) {
-        return true;
-    }
-    if !num::is_finite(sum[2]) {
-        return true;
-    }
-    if !num::is_finite(sum[3]) {
-        return true;
-    }
-    if !num::is_finite(sum[4]) {
-        return true;
-    }
-    !num::is_finite(sum[5])
+    !sound(sum)
 }
 
-fn gap(total: f64, sum: f64, old: f64) -> f64
-    ensures { λ r. ⌜ r ≡ gapOf total sum old ⌝ }
+// The larger of m and a sum's relative move from its old value.
+fn larger(m: f64, total: f64, sum: f64, old: f64) -> f64
+    ensures { λ r. ⌜ r ≡ largerOf m total sum old ⌝ }
 {
-    num::abs(sum - old) / (total + num::abs(sum))
+    num::max(m, num::abs(sum - old) / (total + num::abs(sum)))
 }
 
 fn refined(sum: [f64; 6], old: [f64; 6]) -> f64
     ensures { λ r. ⌜ r ≡ refinementOf sum old ⌝ }
 {
-    let a = num::max(0.0, gap(sum[0], sum[0], old[0]));
-    let b = num::max(a, gap(sum[0], sum[1], old[1]));
-    let c = num::max(b, gap(sum[0], sum[2], old[2]));
-    let d = num::max(c, gap(sum[0], sum[3], old[3]));
-    let e = num::max(d, gap(sum[0], sum[4], old[4]));
-    num::max(e, gap(sum[0], sum[5], old[5]))
+    let a = larger(0.0, sum[0], sum[0], old[0]);
+    let b = larger(a, sum[0], sum[1], old[1]);
+    let c = larger(b, sum[0], sum[2], old[2]);
+    let d = larger(c, sum[0], sum[3], old[3]);
+    let e = larger(d, sum[0], sum[4], old[4]);
+    larger(e, sum[0], sum[5], old[5])
 }
 
 pub fn integrated(p: Posterior, rule: [Pair; 16], h: Hump) -> Integral

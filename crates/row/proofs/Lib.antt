@@ -1,0 +1,2 @@
+pub mod PeakLaws
+pub mod QuadratureLaws
