@@ -1,2 +1,3 @@
 pub mod PeakLaws
 pub mod QuadratureLaws
+pub mod ShareLaws

@@ -1,3 +1,4 @@
 pub mod Coefficient
 pub mod Peak
 pub mod Quadrature
+pub mod Share

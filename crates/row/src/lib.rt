@@ -2,3 +2,7 @@
 pub mod coefficient;
 pub mod peak;
 pub mod quadrature;
+pub mod share;
+
+pub use share::Row;
+pub use share::row_objective;
