@@ -1,0 +1,38 @@
+-- The sums of the litters' shares: gradient by coordinate, Hessian by rows of the four coordinates.
+use mathlib.Core.Bool.{cond}
+use mathlib.Core.List.{List}
+use Prim.Native.Nat.{ℕ, _+_, _*_}
+use lib.Dec.{eqb}
+use lib.ListN.{getD, set, replicate}
+use lib.Ieee.{Float, nan}
+use Rattle.num.specs.F64.{_⊕_, zero·}
+use Rattle.num.specs.Helpers.{maxOf}
+use Rattle.row.specs.Share.{Share}
+use Rattle.objective.specs.declared.totals.Totals.{Totals}
+
+-- a litter's mean is coordinate 0 or 1, its variance two further on
+abbrev pub indexOf : ℕ → ℕ
+indexOf group = cond (eqb group 0) 0 1
+
+abbrev pub raised : List Float → ℕ → Float → List Float
+raised v i x = set v i (getD v i nan ⊕ x)
+
+-- the Hessian's row i and column j stand at 4 i + j
+abbrev pub summedHessian : List Float → ℕ → List Float → List Float
+summedHessian v i h =
+    raised (raised (raised (raised v (5 * i) (getD h 0 nan)) (5 * i + 2) (getD h 1 nan)) (5 * i + 8) (getD h 2 nan)) (5 * i + 10) (getD h 3 nan)
+
+abbrev pub accumulatedOf : Totals → ℕ → Float → List Float → List Float → Float → Totals
+accumulatedOf t i nll gradient hessian refinement =
+    record {
+      nll = t .nll ⊕ nll;
+      gradient = raised (raised (t .gradient) i (getD gradient 0 nan)) (i + 2) (getD gradient 1 nan);
+      hessian = summedHessian (t .hessian) i hessian;
+      refinement = maxOf (t .refinement) refinement;
+    }
+
+abbrev pub noTotals : Totals
+noTotals = record { nll = zero·; gradient = replicate 4 zero·; hessian = replicate 16 zero·; refinement = zero· }
+
+abbrev pub withShare : Totals → ℕ → Share → Totals
+withShare t i s = accumulatedOf t i (s .nll) (s .gradient) (s .hessian) (s .refinement)
