@@ -1,2 +1,3 @@
 pub mod Litters
 pub mod Totals
+pub mod Objective

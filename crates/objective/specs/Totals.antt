@@ -2,7 +2,7 @@
 use mathlib.Core.Bool.{cond}
 use mathlib.Core.List.{List}
 use Prim.Native.Nat.{ℕ, _+_, _*_}
-use lib.Dec.{eqb}
+use lib.Dec.{ltb}
 use lib.ListN.{getD, set, replicate}
 use lib.Ieee.{Float, nan}
 use Rattle.num.specs.F64.{_⊕_, zero·}
@@ -12,7 +12,7 @@ use Rattle.objective.specs.declared.totals.Totals.{Totals}
 
 -- a litter's mean is coordinate 0 or 1, its variance two further on
 abbrev pub indexOf : ℕ → ℕ
-indexOf group = cond (eqb group 0) 0 1
+indexOf group = cond (ltb group 1) 0 1
 
 abbrev pub raised : List Float → ℕ → Float → List Float
 raised v i x = set v i (getD v i nan ⊕ x)

@@ -12,9 +12,9 @@ pub struct Totals {
 }
 
 pub fn index(group: u32) -> usize
-    ensures { λ r. ⌜ r ≡ indexOf group ⌝ }
+    ensures { λ r. ⌜ (r ≡ indexOf group) × (r < 2) ⌝ }
 {
-    if group == 0 { 0 } else { 1 }
+    if group < 1 { 0 } else { 1 }
 }
 
 pub fn accumulated(t: Totals, i: usize, r: Row) -> Totals

@@ -1,0 +1,117 @@
+// The objective at a point: the litters' shares, each under what is left of the limit, summed in their order.
+use crate::totals::Totals;
+use legendre::Pair;
+use row::Row;
+use work::Ending;
+use work::QuadratureEvaluations;
+ghost use mathlib.Core.Path.{_≡_};
+ghost use Prim.Native.Nat.{_+_, _*_, _<_};
+ghost use lib.ListN.{length};
+ghost use Rattle.objective.specs.Objective.{refusalOf, answeredOf, rowAt, summedOf, limitedOf, objectiveOf};
+
+// The coordinates are two means, then two variances. The Hessian stands by rows.
+pub struct Objective {
+    pub end: Ending,
+    pub used: QuadratureEvaluations,
+    pub nll: f64,
+    pub gradient: [f64; 4],
+    pub hessian: [f64; 16],
+    pub refinement: f64,
+}
+
+fn refusal(end: Ending, used: QuadratureEvaluations) -> Objective
+    ensures { λ r. ⌜ r ≡ refusalOf end used ⌝ }
+{
+    Objective {
+        end,
+        used,
+        nll: 0.0,
+        gradient: [0.0; 4],
+        hessian: [0.0; 16],
+        refinement: 0.0,
+    }
+}
+
+fn answered(used: u64, t: Totals) -> Objective
+    ensures { λ r. ⌜ r ≡ answeredOf used t ⌝ }
+{
+    let gradient = t.gradient;
+    let hessian = t.hessian;
+    Objective {
+        end: Ending::Answered,
+        used: QuadratureEvaluations(used),
+        nll: t.nll,
+        gradient,
+        hessian,
+        refinement: t.refinement,
+    }
+}
+
+fn litter(i: usize, rule: [Pair; 16], x: [f64; 4], litters: &[u32], limit: u64) -> Row
+    requires { ⌜ 3 * i + 2 < length (now litters) ⌝ }
+    ensures { λ r. ⌜ r ≡ rowAt rule x (now (litters .entry)) i limit ⌝ }
+{
+    let k = 3 * i;
+    let successes = litters[k];
+    let total = litters[k + 1];
+    let g = crate::totals::index(litters[k + 2]);
+    row::row_objective(
+        i as u64,
+        successes,
+        total,
+        rule,
+        x[g],
+        x[g + 2],
+        QuadratureEvaluations(limit),
+    )
+}
+
+fn summed(rule: [Pair; 16], x: [f64; 4], litters: &[u32], limit: u64) -> Objective
+    ensures { λ r. ⌜ r ≡ summedOf rule x (now (litters .entry)) limit ⌝ }
+{
+    let n = litters.len() / 3;
+    let mut used: u64 = 0;
+    let mut t = Totals {
+        nll: 0.0,
+        gradient: [0.0; 4],
+        hessian: [0.0; 16],
+        refinement: 0.0,
+    };
+    for i in 0..n {
+        let r = litter(i, rule, x, litters, limit - used);
+        used += r.used.0;
+        let end = r.end;
+        if work::refused(end) {
+            return refusal(end, QuadratureEvaluations(used));
+        }
+        let g = crate::totals::index(litters[3 * i + 2]);
+        let s = crate::totals::accumulated(t, g, r);
+        t = s;
+    }
+    answered(used, t)
+}
+
+// The rule is computed once and passed on: the source computes it at each call, to the same bits.
+pub fn limited_objective(
+    rule: [Pair; 16],
+    x: [f64; 4],
+    litters: &[u32],
+    limit: QuadratureEvaluations,
+) -> Objective
+    ensures { λ r. ⌜ (r ≡ limitedOf rule x (now (litters .entry)) limit) × (now (litters .exit) ≡ now (litters .entry)) ⌝ }
+{
+    if !crate::check::valid_point(x) {
+        return refusal(Ending::InvalidInput, QuadratureEvaluations(0));
+    }
+    if !crate::check::valid_litters(litters) {
+        return refusal(Ending::InvalidInput, QuadratureEvaluations(0));
+    }
+    summed(rule, x, litters, limit.0)
+}
+
+pub fn probit_normal_binomial_objective(x: [f64; 4], litters: &[u32]) -> Objective
+    ensures { λ r. ⌜ (r ≡ objectiveOf x (now (litters .entry))) × (now (litters .exit) ≡ now (litters .entry)) ⌝ }
+{
+    let rule = legendre::legendre();
+    limited_objective(rule, x, litters, QuadratureEvaluations(8388608))
+}
