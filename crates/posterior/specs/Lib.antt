@@ -3,3 +3,4 @@ pub mod Integrand
 pub mod Bracket
 pub mod Mode
 pub mod Tail
+pub mod Bound
