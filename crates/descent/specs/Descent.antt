@@ -39,6 +39,12 @@ pub data Step (X O : Type 0) : Type 0 where
   to : X → O → Step X O
   nowhere : Step X O
 
+-- what one trial comes to
+pub record Tried (X O : Type 0) : Type 0 where
+  pub step : Step X O
+  pub evaluations : ℕ
+  pub trial : Trial
+
 -- what a line search comes to: the step, the evaluations of the objective so far, and the trials so far, the newest first
 pub record Searched (X O : Type 0) : Type 0 where
   pub step : Step X O
@@ -94,16 +100,27 @@ module _ {E Y X O D : Type 0} (p : Problem E Y X O D) where
   abbrev pub missedTrial : X → O → X → O → Trial
   missedTrial x v next c = record { reason = tooLittle; number = p .nll c ⊖ boundOf (p .nll v) (p .slope x v next) }
 
-  -- at most n trials more, the next at alpha along the direction d, with e evaluations behind it
+  -- a trial at alpha along the direction d, with e evaluations behind it: it finds its candidate or nothing, and says why
+  unfoldable pub try : X → O → D → Float → ℕ → Work E Y (Tried X O)
+  try x v d alpha e =
+      let next = p .candidate x d alpha in
+      cond (idle x v next) (ret (record { step = nowhere; evaluations = e; trial = idleTrial x v next }))
+      (p .evaluate next >>= λ c.
+      cond (accepts x v next c) (ret (record { step = to next c; evaluations = e + 1; trial = acceptedTrial x v next c }))
+      (ret (record { step = nowhere; evaluations = e + 1; trial = missedTrial x v next c })))
+
+  abbrev pub orElse : {A : Type 0} → (X → O → A) → A → Step X O → A
+  orElse there none (to next c) = there next c
+  orElse there none nowhere = none
+
+  -- at most n trials more, the next at alpha
   unfoldable pub search : X → O → D → ℕ → Float → ℕ → List Trial → Work E Y (Searched X O)
   search x v d zero alpha e ts = ret (record { step = nowhere; evaluations = e; trials = ts })
   search x v d (suc n) alpha e ts =
-      let next = p .candidate x d alpha in
       cond (leb (p .most) e) (ret (record { step = nowhere; evaluations = e; trials = record { reason = cutOff; number = zero· } ∷ ts }))
-      (cond (idle x v next) (search x v d n (alpha ⊗ half·) e (idleTrial x v next ∷ ts))
-      (p .evaluate next >>= λ c.
-      cond (accepts x v next c) (ret (record { step = to next c; evaluations = e + 1; trials = acceptedTrial x v next c ∷ ts }))
-      (search x v d n (alpha ⊗ half·) (e + 1) (missedTrial x v next c ∷ ts))))
+      (try x v d alpha e >>= λ t.
+      orElse (λ next c. ret (record { step = t .step; evaluations = t .evaluations; trials = t .trial ∷ ts }))
+      (search x v d n (alpha ⊗ half·) (t .evaluations) (t .trial ∷ ts)) (t .step))
 
   abbrev pub lineSearch : X → O → ℕ → List Trial → Work E Y (Searched X O)
   lineSearch x v e ts = search x v (p .direction x v) 48 one· e ts
@@ -115,10 +132,6 @@ module _ {E Y X O D : Type 0} (p : Problem E Y X O D) where
   abbrev pub ended : Status → X → O → ℕ → ℕ → List Trial → Descended X O
   ended s x v e k ts = record { status = s; x = x; v = v; evaluations = e; iterations = k; trials = ts }
 
-  abbrev onward : (X → O → Work E Y (Descended X O)) → Work E Y (Descended X O) → Step X O → Work E Y (Descended X O)
-  onward go halt (to next c) = go next c
-  onward go halt nowhere = halt
-
   -- at most n steps more, from x with the value v there; e evaluations and k steps are behind it
   unfoldable pub descend : ℕ → X → O → ℕ → ℕ → List Trial → Work E Y (Descended X O)
   descend zero x v e k ts =
@@ -128,7 +141,7 @@ module _ {E Y X O D : Type 0} (p : Problem E Y X O D) where
       cond (le (p .norm x v) (p .tolerance)) (ret (ended Converged x v e k ts))
       (cond (leb (p .most) e) (ret (ended EvaluationLimit x v e k ts))
       (lineSearch x v e ts >>= λ s.
-      onward (λ next c. descend n next c (s .evaluations) (k + 1) (s .trials)) (ret (ended (failed (s .evaluations)) x v (s .evaluations) k (s .trials))) (s .step)))
+      orElse (λ next c. descend n next c (s .evaluations) (k + 1) (s .trials)) (ret (ended (failed (s .evaluations)) x v (s .evaluations) k (s .trials))) (s .step)))
 
   -- from a start, whose evaluation is the first
   abbrev pub descent : X → Work E Y (Descended X O)
