@@ -1,0 +1,30 @@
+-- `step::candidate` meets its contract, by what its callee ensures.
+use borrow.Author.Needs.{needs}
+use Rattle.fit.proofs.step.candidate.Statement.{statement}
+use Rattle.fit.proofs.step.candidate.Tie as tie
+
+pub candidate-spec : {M : Type 1} → statement M
+candidate-spec =
+    tie.close
+    (tie.spec
+    (λ c. search needs)
+    (λ c. search needs)
+    (λ c. search needs)
+    (λ c. search needs)
+    (λ c κs. search needs)
+    (λ c. search needs)
+    (λ c. search needs)
+    (λ c. search needs)
+    (λ c. search needs)
+    (λ c κs. search needs)
+    (λ c. search needs)
+    (λ c. search needs)
+    (λ c. search needs)
+    (λ c. search needs)
+    (λ c κs. search needs)
+    (λ c. search needs)
+    (λ c. search needs)
+    (λ c. search needs)
+    (λ c. search needs)
+    (λ c κs. search needs)
+    (λ c. rw (c .clamp4 .ensures, c .before .clamp3 .ensures, c .before .before .clamp2 .ensures, c .before .before .before .clamp .ensures)))

@@ -1,0 +1,21 @@
+-- `step::still` meets its contract, by what its callees ensure.
+use borrow.Author.Needs.{needs}
+use Rattle.fit.proofs.step.still.Statement.{statement}
+use Rattle.fit.proofs.step.still.Tie as tie
+
+pub still-spec : {M : Type 1} → statement M
+still-spec =
+    tie.close
+    (tie.spec
+    (λ c. search needs)
+    (λ c. search needs)
+    (λ c. search needs)
+    (λ c. search needs)
+    (λ c κs. search needs)
+    (λ c. search needs)
+    (λ c. search needs)
+    (λ c. search needs)
+    (λ c. search needs)
+    (λ c κs. search needs)
+    (λ c κs. search needs)
+    (λ c. cc))

@@ -1,0 +1,3 @@
+// The fit: a request's checks, the steps of the descent, the line search, and the answer.
+pub mod request;
+pub mod step;
