@@ -73,11 +73,11 @@ allowanceOf nll = rounding-unit ⊗ (one· ⊕ absOf nll)
 abbrev pub boundOf : Float → Float → Float
 boundOf nll slope = nll ⊕ decrease-share ⊗ slope
 
-abbrev pub decreases : Float → Float → Float → Bool
+unfoldable pub decreases : Float → Float → Float → Bool
 decreases nll slope next = le next (boundOf nll slope)
 
 -- a move within rounding that brings the norm down
-abbrev pub rounds : Float → Float → Float → Float → Float → Bool
+unfoldable pub rounds : Float → Float → Float → Float → Float → Bool
 rounds nll slope next norm norm′ = le (absOf slope) (allowanceOf nll) && (le next (nll ⊕ allowanceOf nll) && lt norm′ norm)
 
 module _ {E Y X O D : Type 0} (p : Problem E Y X O D) where

@@ -19,11 +19,11 @@ each v i = getD v i nan
 abbrev projected : List Float → List Float → List Float → List Float → ℕ → Float
 projected x g lo hi i = projectAt (each x i) (each g i) (each lo i) (each hi i)
 
-abbrev pub projectOf : List Float → List Float → List Float → List Float → List Float
+unfoldable pub projectOf : List Float → List Float → List Float → List Float → List Float
 projectOf x g lo hi = let at = projected x g lo hi in at 0 ∷ at 1 ∷ at 2 ∷ at 3 ∷ []
 
 -- the largest magnitude; a NaN is dropped
-abbrev pub normOf : List Float → Float
+unfoldable pub normOf : List Float → Float
 normOf g = maxOf (maxOf (maxOf (maxOf zero· (absOf (each g 0))) (absOf (each g 1))) (absOf (each g 2))) (absOf (each g 3))
 
 -- 1e-6
@@ -90,12 +90,12 @@ directionOf x g hessian lo hi = safeOf g (joined (groupStep x g hessian lo hi 0)
 abbrev candidateAt : List Float → List Float → Float → List Float → List Float → ℕ → Float
 candidateAt x d alpha lo hi i = clampOf (each x i ⊕ alpha ⊗ each d i) (each lo i) (each hi i)
 
-abbrev pub candidateOf : List Float → List Float → Float → List Float → List Float → List Float
+unfoldable pub candidateOf : List Float → List Float → Float → List Float → List Float → List Float
 candidateOf x d alpha lo hi = let at = candidateAt x d alpha lo hi in at 0 ∷ at 1 ∷ at 2 ∷ at 3 ∷ []
 
-abbrev pub slopeOf : List Float → List Float → List Float → Float
+unfoldable pub slopeOf : List Float → List Float → List Float → Float
 slopeOf gradient next x =
     sumOf (each gradient 0 ⊗ (each next 0 ⊖ each x 0) ∷ each gradient 1 ⊗ (each next 1 ⊖ each x 1) ∷ each gradient 2 ⊗ (each next 2 ⊖ each x 2) ∷ each gradient 3 ⊗ (each next 3 ⊖ each x 3) ∷ [])
 
-abbrev pub stillOf : List Float → List Float → Bool
+unfoldable pub stillOf : List Float → List Float → Bool
 stillOf next x = eq (each next 0) (each x 0) && (eq (each next 1) (each x 1) && (eq (each next 2) (each x 2) && eq (each next 3) (each x 3)))

@@ -68,7 +68,7 @@ fn newton(a: f64, b: f64, c: f64, g: f64, h: f64) -> Move
     }
 }
 
-fn either(a: bool, b: bool) -> bool
+pub fn either(a: bool, b: bool) -> bool
     ensures { λ r. ⌜ r ≡ (a || b) ⌝ }
 {
     if a { true } else { b }

@@ -1,9 +1,11 @@
 -- `step::candidate` meets its contract, by what its callee ensures.
+use Rattle.fit.specs.Step.{candidateOf}
 use borrow.Author.Needs.{needs}
 use Rattle.fit.proofs.step.candidate.Statement.{statement}
 use Rattle.fit.proofs.step.candidate.Tie as tie
 
 pub candidate-spec : {M : Type 1} → statement M
+unfolding candidateOf
 candidate-spec =
     tie.close
     (tie.spec

@@ -1,9 +1,11 @@
 -- `step::project` meets its contract, by what its callee ensures.
+use Rattle.fit.specs.Step.{projectOf}
 use borrow.Author.Needs.{needs}
 use Rattle.fit.proofs.step.project.Statement.{statement}
 use Rattle.fit.proofs.step.project.Tie as tie
 
 pub project-spec : {M : Type 1} → statement M
+unfolding projectOf
 project-spec =
     tie.close
     (tie.spec

@@ -1,9 +1,11 @@
 -- `step::still` meets its contract, by what its callees ensure.
+use Rattle.fit.specs.Step.{stillOf}
 use borrow.Author.Needs.{needs}
 use Rattle.fit.proofs.step.still.Statement.{statement}
 use Rattle.fit.proofs.step.still.Tie as tie
 
 pub still-spec : {M : Type 1} → statement M
+unfolding stillOf
 still-spec =
     tie.close
     (tie.spec

@@ -1,0 +1,152 @@
+-- How a descent stops, over any problem: every answer has the one status that its norm and its counts give, and keeps within both limits.
+-- A refusal of the objective, at the start or at a candidate, ends the descent with that refusal: `>>=` past a `stop` is that `stop`.
+use mathlib.Core.Path.{_≡_}
+use mathlib.Core.Bool.{Bool, true, false, cond}
+use mathlib.Core.List.{List, [], _∷_}
+use mathlib.Core.Logic.{_↔_}
+use Prim.Native.Nat.{ℕ, zero, suc, _+_, _≤_, _<_}
+use native.Mathlib.Omega.{arith}
+use lib.Dec.{leb}
+use lib.Ieee.{Float, le}
+use borrow.Author.Tests.{leb-true, leb-false, le-leb, lt-leb}
+use Rattle.num.specs.F64.{half·, one·, _⊗_}
+use Rattle.work.specs.Work.{Work}
+use Rattle.work.specs.Always.{Always, holds, chosen, tested, passed, weaker, anything}
+use Rattle.descent.specs.declared.Status.{Status}
+use Rattle.descent.specs.declared.Status.the-variants.{Converged, EvaluationLimit, IterationLimit, LineSearchFailed}
+use Rattle.descent.specs.Descent.{Problem, Trial, Step, to, nowhere, Descended, idle, accepts, try, orElse, search, ended, failed, descend, descent}
+
+-- The status, by the norm and the tolerance, the evaluations e of at most `most`, and the steps k of at most `turns`.
+unfoldable pub statusOf : Float → Float → ℕ → ℕ → ℕ → ℕ → Status
+statusOf norm tolerance most turns e k =
+    cond (le norm tolerance) Converged
+    (cond (leb most e) EvaluationLimit
+    (cond (leb turns k) IterationLimit LineSearchFailed))
+
+module _ {E Y X O D : Type 0} (p : Problem E Y X O D) where
+  -- whether the norm at the point reported is at most the tolerance
+  abbrev pub near : Descended X O → Bool
+  near r = le (p .norm (r .x) (r .v)) (p .tolerance)
+
+  pub record Stopped (r : Descended X O) : Type 0 where
+    pub status : r .status ≡ statusOf (p .norm (r .x) (r .v)) (p .tolerance) (p .most) (p .turns) (r .evaluations) (r .iterations)
+    pub within-evaluations : r .evaluations ≤ p .most
+    pub within-iterations : r .iterations ≤ p .turns
+
+-- ---- the proof. Q is whatever the objective's evaluation at a point always gives there. The start is evaluated even where `most` is 0, so the counts want 1 ≤ most.
+module _ {E Y X O D : Type 0} (p : Problem E Y X O D) (Q : X → O → Type 0) (gives : (x : X) → Always (Q x) (p .evaluate x)) where
+  record Answer (r : Descended X O) : Type 0 where
+    stopped : 1 ≤ p .most → Stopped p r
+    evaluated : Q (r .x) (r .v)
+
+  abbrev Within : ℕ → Type 0
+  Within e = 1 ≤ p .most → e ≤ p .most
+
+  data Reached : Step X O → Type 0 where
+    there : {x : X} {v : O} → Q x v → Reached (to x v)
+    none : Reached nowhere
+
+  -- what a trial or a search comes to, with n evaluations behind it
+  record Sought (n : ℕ) (s : Step X O) : Type 0 where
+    within : Within n
+    reached : Reached s
+
+  by-step : {B : Type 0} {R : B → Type 0} {s : Step X O} {go : X → O → Work E Y B} {halt : Work E Y B} → Reached s → ((x : X) (v : O) → Q x v → Always R (go x v)) → Always R halt → Always R (orElse p go halt s)
+  by-step (there q) g h = g _ _ q
+  by-step none g h = h
+
+  tried : (x : X) (v : O) (d : D) (alpha : Float) (e : ℕ) → e < p .most → Always (λ t. Sought (t .evaluations) (t .step)) (try p x v d alpha e)
+  unfolding try
+  tried x v d alpha e h =
+      let next = p .candidate x d alpha in
+      chosen (idle p x v next) (holds (record { within = λ o. omega arith; reached = none }))
+      (passed (gives next) (λ c q.
+      chosen (accepts p x v next c) (holds (record { within = λ o. omega arith; reached = there q }))
+      (holds (record { within = λ o. omega arith; reached = none }))))
+
+  sought : (x : X) (v : O) (d : D) (n : ℕ) (alpha : Float) (e : ℕ) (ts : List Trial) → Within e → Always (λ s. Sought (s .evaluations) (s .step)) (search p x v d n alpha e ts)
+  unfolding search
+  sought x v d zero alpha e ts h = holds (record { within = h; reached = none })
+  sought x v d (suc n) alpha e ts h =
+      tested (leb (p .most) e) (λ t. holds (record { within = h; reached = none }))
+      (λ t.
+      passed (tried x v d alpha e (leb-false (p .most) e t)) (λ r g.
+      by-step (g .reached) (λ next c q. holds (record { within = g .within; reached = g .reached }))
+      (sought x v d n (alpha ⊗ half·) (r .evaluations) (r .trial ∷ ts) (g .within))))
+
+  answer : (s : Status) (x : X) (v : O) (e k : ℕ) (ts : List Trial) → Q x v → Within e → k ≤ p .turns → s ≡ statusOf (p .norm x v) (p .tolerance) (p .most) (p .turns) e k → Answer (ended p s x v e k ts)
+  answer s x v e k ts q h l t = record { stopped = λ o. record { status = t; within-evaluations = h o; within-iterations = l }; evaluated = q }
+
+  answers : (n : ℕ) (x : X) (v : O) (e k : ℕ) (ts : List Trial) → Q x v → Within e → k + n ≡ p .turns → Always Answer (descend p n x v e k ts)
+  unfolding descend statusOf
+  answers zero x v e k ts q h l =
+      tested (le (p .norm x v) (p .tolerance)) (λ t. holds (answer Converged x v e k ts q h (omega arith) (rw t)))
+      (λ f.
+      tested (leb (p .most) e) (λ t. holds (answer EvaluationLimit x v e k ts q h (omega arith) (rw (f, t))))
+      (λ t. holds (answer IterationLimit x v e k ts q h (omega arith) (rw (f, t, le-leb (p .turns) k (omega arith))))))
+  answers (suc n) x v e k ts q h l =
+      tested (le (p .norm x v) (p .tolerance)) (λ t. holds (answer Converged x v e k ts q h (omega arith) (rw t)))
+      (λ f.
+      tested (leb (p .most) e) (λ t. holds (answer EvaluationLimit x v e k ts q h (omega arith) (rw (f, t))))
+      (λ t.
+      passed (sought x v (p .direction x v) 48 one· e ts h) (λ s g.
+      by-step (g .reached) (λ next c q′. answers n next c (s .evaluations) (k + 1) (s .trials) q′ (g .within) (omega arith))
+      (holds (answer (failed p (s .evaluations)) x v (s .evaluations) k (s .trials) q (g .within) (omega arith) (rw (f, lt-leb (p .turns) k (omega arith))))))))
+
+  descent-answers : (x : X) → Always Answer (descent p x)
+  descent-answers x = passed (gives x) (λ v q. answers (p .turns) x v 1 0 [] q (λ o. o) (omega arith))
+
+-- ---- the theorems
+module _ {E Y X O D : Type 0} (p : Problem E Y X O D) where
+  -- Every answer of a descent has the one status that its norm and its counts give, and keeps within both limits.
+  pub stops : 1 ≤ p .most → (x : X) → Always (Stopped p) (descent p x)
+  stops h x = weaker (λ r a. a .stopped h) (descent-answers p (λ x v. Unit {0}) (λ x. anything (λ v. tt) (p .evaluate x)) x)
+
+  -- The value reported is one that the objective's evaluation at the point reported gave: it has whatever every such value has.
+  pub reports-evaluated : (Q : X → O → Type 0) → ((x : X) → Always (Q x) (p .evaluate x)) → (x : X) → Always (λ r. Q (r .x) (r .v)) (descent p x)
+  reports-evaluated Q gives x = weaker (λ r a. a .evaluated) (descent-answers p Q gives x)
+
+-- which tests each status stands for
+record ByTests (s : Status) (a b c : Bool) : Type 0 where
+  converged : (s ≡ Converged) ↔ (a ≡ true)
+  evaluation-limit : (s ≡ EvaluationLimit) ↔ ((a ≡ false) × (b ≡ true))
+  iteration-limit : (s ≡ IterationLimit) ↔ ((a ≡ false) × (b ≡ false) × (c ≡ true))
+  line-search-failed : (s ≡ LineSearchFailed) ↔ ((a ≡ false) × (b ≡ false) × (c ≡ false))
+
+by-tests : (s : Status) (a b c : Bool) → s ≡ cond a Converged (cond b EvaluationLimit (cond c IterationLimit LineSearchFailed)) → ByTests s a b c
+by-tests s true b c e = record { converged = (λ h. cc, λ h. cc); evaluation-limit = (λ h. (cc, cc), λ h. cc); iteration-limit = (λ h. (cc, cc, cc), λ h. cc); line-search-failed = (λ h. (cc, cc, cc), λ h. cc) }
+by-tests s false true c e = record { converged = (λ h. cc, λ h. cc); evaluation-limit = (λ h. (cc, cc), λ h. cc); iteration-limit = (λ h. (cc, cc, cc), λ h. cc); line-search-failed = (λ h. (cc, cc, cc), λ h. cc) }
+by-tests s false false true e = record { converged = (λ h. cc, λ h. cc); evaluation-limit = (λ h. (cc, cc), λ h. cc); iteration-limit = (λ h. (cc, cc, cc), λ h. cc); line-search-failed = (λ h. (cc, cc, cc), λ h. cc) }
+by-tests s false false false e = record { converged = (λ h. cc, λ h. cc); evaluation-limit = (λ h. (cc, cc), λ h. cc); iteration-limit = (λ h. (cc, cc, cc), λ h. cc); line-search-failed = (λ h. (cc, cc, cc), λ h. cc) }
+
+-- ---- each status, exactly; a norm that is NaN is not at most the tolerance
+module _ {E Y X O D : Type 0} {p : Problem E Y X O D} {r : Descended X O} (s : Stopped p r) where
+  tests : ByTests (r .status) (near p r) (leb (p .most) (r .evaluations)) (leb (p .turns) (r .iterations))
+  unfolding statusOf
+  tests = by-tests (r .status) (near p r) (leb (p .most) (r .evaluations)) (leb (p .turns) (r .iterations)) (s .status)
+
+  -- Converged: exactly if the reported norm is at most the tolerance
+  pub converged-exactly : (r .status ≡ Converged) ↔ (near p r ≡ true)
+  converged-exactly = tests .converged
+
+  -- EvaluationLimit: exactly if the reported norm is not at most the tolerance and every evaluation is used
+  pub evaluation-limit-exactly : (r .status ≡ EvaluationLimit) ↔ ((near p r ≡ false) × (r .evaluations ≡ p .most))
+  evaluation-limit-exactly =
+      let t = tests .evaluation-limit in
+      (λ h. (t .0 h .0, omega (arith, leb-true (p .most) (r .evaluations) (t .0 h .1))), λ h. t .1 (h .0, le-leb (p .most) (r .evaluations) (omega arith)))
+
+  -- IterationLimit: exactly if the reported norm is not at most the tolerance, evaluations are left, and every step is used
+  pub iteration-limit-exactly : (r .status ≡ IterationLimit) ↔ ((near p r ≡ false) × (r .evaluations < p .most) × (r .iterations ≡ p .turns))
+  iteration-limit-exactly =
+      let t = tests .iteration-limit in (
+        λ h. (t .0 h .0, leb-false (p .most) (r .evaluations) (t .0 h .1), omega (arith, leb-true (p .turns) (r .iterations) (t .0 h .2))),
+        λ h. t .1 (h .0, lt-leb (p .most) (r .evaluations) (h .1), le-leb (p .turns) (r .iterations) (omega arith)),
+      )
+
+  -- LineSearchFailed: exactly if the reported norm is not at most the tolerance, and evaluations and steps are left
+  pub line-search-failed-exactly : (r .status ≡ LineSearchFailed) ↔ ((near p r ≡ false) × (r .evaluations < p .most) × (r .iterations < p .turns))
+  line-search-failed-exactly =
+      let t = tests .line-search-failed in (
+        λ h. (t .0 h .0, leb-false (p .most) (r .evaluations) (t .0 h .1), leb-false (p .turns) (r .iterations) (t .0 h .2)),
+        λ h. t .1 (h .0, lt-leb (p .most) (r .evaluations) (h .1), lt-leb (p .turns) (r .iterations) (h .2)),
+      )

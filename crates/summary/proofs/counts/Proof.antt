@@ -1,0 +1,65 @@
+-- `counts` meets its contract, as the counts so far and those of the litters still to come make the whole.
+use mathlib.Core.Path.{_≡_, refl}
+use Prim.Native.Nat.{_+_, _-_, _*_, _/_}
+use native.Mathlib.Omega.{arith}
+use lib.ListN.{length}
+use Rattle.summary.specs.Summary.{plusOf, countsFrom, countsOf}
+use Rattle.summary.proofs.Laws.{Within, within-none, within-more, adds, counts-begin, counts-turn, counts-done}
+use borrow.Author.Needs.{needs}
+use Rattle.summary.proofs.counts.Statement.{statement}
+use Rattle.summary.proofs.counts.Tie as tie
+
+abbrev Inv-loop : tie.InvT-loop
+Inv-loop litters asked n c₀ i₀ c i = (n ≡ length litters / 3) × Within c i × (plusOf c (countsFrom litters asked (n - i) i) ≡ countsOf litters asked)
+
+abbrev μ-loop : tie.MeasureT-loop
+μ-loop litters asked n c₀ i₀ c i = n - i
+
+loop-holds : tie.Need-loop-holds Inv-loop μ-loop
+loop-holds c = (refl, rw (c .no-counts .ensures) (within-none _), rw (c .no-counts .ensures) (counts-begin _ _))
+
+plus-requires : tie.Need-plus-requires Inv-loop μ-loop
+plus-requires c κs =
+    let known = c .before .before .before in
+    let l = known .before .before in
+    let i = l .loop .i in
+    let number = known .shared-slice-known2 .given in
+    adds _ _ _ _ _ _ _ (l .loop .inv .1) (c .litter-counts .ensures) (omega (arith, number (3 * i))) (omega (arith, number (3 * i + 1))) (omega arith)
+
+loop-again : tie.Need-loop-again Inv-loop μ-loop
+loop-again c =
+    let d = c .before in
+    let known = d .before .before .before in
+    let l = known .before .before in
+    let i = l .loop .i in
+    let number = known .shared-slice-known2 .given in
+    let v = l .loop .inv in
+    let one = d .litter-counts .ensures in
+    (v .0, within-more _ _ _ _ _ _ _ (v .1) one (omega (arith, number (3 * i))) (omega (arith, number (3 * i + 1))) _ (c .plus .ensures), counts-turn _ _ _ _ _ _ (v .2) _ _ (known .before .loop-test .taken) one (c .plus .ensures))
+
+returns : tie.Need-returns Inv-loop μ-loop
+returns c = search counts-done
+
+pub counts-spec : {M : Type 1} → statement M
+counts-spec =
+    tie.close
+    (tie.spec
+    Inv-loop
+    μ-loop
+    (λ c κs. search needs)
+    loop-holds
+    (λ c. omega arith)
+    (λ c. omega arith)
+    (λ c. omega arith)
+    (λ c. omega arith)
+    (λ c. omega arith)
+    (λ c. omega arith)
+    (λ c. omega arith)
+    (λ c. omega arith)
+    (λ c. omega arith)
+    (λ c κs. search needs)
+    plus-requires
+    (λ c. omega arith)
+    (λ c. omega arith)
+    loop-again
+    returns)
