@@ -1,3 +1,4 @@
 pub mod Request
 pub mod Step
 pub mod Search
+pub mod Descend

@@ -1,0 +1,12 @@
+-- `descend::direction_at` meets its contract, by what its callees ensure.
+use borrow.Author.Needs.{needs}
+use Rattle.fit.proofs.descend.direction_at.Statement.{statement}
+use Rattle.fit.proofs.descend.direction_at.Tie as tie
+
+pub direction-at-spec : {M : Type 1} → statement M
+direction-at-spec =
+    tie.close
+    (tie.spec
+    (λ c κs. search needs)
+    (λ c κs. search needs)
+    (λ c. cc))
