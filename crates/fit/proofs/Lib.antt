@@ -1,3 +1,4 @@
 pub mod StepLaws
 pub mod SearchLaws
 pub mod DescendLaws
+pub mod FitLaws

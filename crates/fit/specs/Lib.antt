@@ -2,3 +2,4 @@ pub mod Request
 pub mod Step
 pub mod Search
 pub mod Descend
+pub mod Fit

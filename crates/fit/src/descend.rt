@@ -23,7 +23,7 @@ pub struct Descent {
     pub iterations: Iterations,
 }
 
-fn refusal(end: Ending, used: u64) -> Descent
+pub fn refusal(end: Ending, used: u64) -> Descent
     ensures { λ r. ⌜ r ≡ refusalOf end used ⌝ }
 {
     Descent {

@@ -1,0 +1,121 @@
+-- `fit_probit_normal_binomial` of the source: a request's checks, the descent from its start, and the report.
+use mathlib.Core.Bool.{Bool, false, cond, _||_}
+use mathlib.Core.List.{List, [], _∷_}
+use Prim.Native.Nat.{ℕ}
+use lib.ListN.{getD, replicate}
+use lib.Ieee.{Float, nan, eq}
+use Rattle.num.specs.F64.{zero·}
+use Rattle.num.specs.Helpers.{clampOf}
+use Rattle.root.specs.Steps.{sqrtOf}
+use Rattle.work.specs.declared.Ending.{Ending}
+use Rattle.work.specs.declared.Ending.the-variants.{Answered, InvalidInput}
+use Rattle.work.specs.Ended.{invalid, isRefused}
+use Rattle.work.specs.Work.{Work, ret, stop, _>>=_, metered, told}
+use Rattle.legendre.specs.declared.Pair.{Pair}
+use Rattle.legendre.specs.Legendre.{legendreOf}
+use Rattle.posterior.specs.declared.integrand.Point.{Point}
+use Rattle.posterior.specs.Integrand.{Eval, at}
+use Rattle.descent.specs.declared.Status.{Status}
+use Rattle.descent.specs.declared.Status.the-variants.{NoStatus}
+use Rattle.descent.specs.Descent.{descent}
+use Rattle.objective.specs.declared.totals.Totals.{Totals}
+use Rattle.objective.specs.Litters.{countOf}
+use Rattle.fit.specs.declared.request.Request.{Request}
+use Rattle.fit.specs.declared.search.Plan.{Plan}
+use Rattle.fit.specs.declared.descend.Descent.{Descent}
+use Rattle.fit.specs.declared.report.Fit.{Fit}
+use Rattle.fit.specs.Request.{admits, validLimit, startOf, lowOf, highOf}
+use Rattle.fit.specs.Search.{normAt, problemOf}
+use Rattle.fit.specs.Descend.{toDescent, noDescended}
+
+abbrev pub planOf : Request → Plan
+planOf r = record { lo = lowOf r; hi = highOf r; tolerance = r .tolerance; most = r .evaluations; turns = r .iterations; limit = r .quadrature }
+
+pub record Report : Type 0 where
+  pub status : Status
+  pub means : List Float
+  pub sds : List Float
+  pub nll : Float
+  pub norm : Float
+  pub evaluations : ℕ
+  pub iterations : ℕ
+  pub litters : ℕ
+  pub active : List Bool
+
+-- the reported SD is the clamped root of the variance
+abbrev pub sdOf : Request → List Float → ℕ → ℕ → Float
+sdOf r x i j = clampOf (sqrtOf (getD x j nan)) (getD (r .sd .low) i nan) (getD (r .sd .high) i nan)
+
+-- a coordinate on one of its bounds
+abbrev pub onBound : Float → Float → Float → Bool
+onBound x lo hi = eq x lo || eq x hi
+
+abbrev activeAt : List Float → List Float → List Float → ℕ → Bool
+activeAt x lo hi i = onBound (getD x i nan) (getD lo i nan) (getD hi i nan)
+
+unfoldable pub activeOf : List Float → List Float → List Float → List Bool
+activeOf x lo hi = let at = activeAt x lo hi in at 0 ∷ at 1 ∷ at 2 ∷ at 3 ∷ []
+
+unfoldable pub sdsOf : Request → List Float → List Float
+sdsOf r x = sdOf r x 0 2 ∷ sdOf r x 1 3 ∷ []
+
+abbrev pub reportOf : Request → ℕ → Status → List Float → Totals → ℕ → ℕ → Report
+reportOf r n status x v e k =
+    record {
+      status = status;
+      means = getD x 0 nan ∷ getD x 1 nan ∷ [];
+      sds = sdsOf r x;
+      nll = v .nll;
+      norm = normAt (lowOf r) (highOf r) x v;
+      evaluations = e;
+      iterations = k;
+      litters = n;
+      active = activeOf x (lowOf r) (highOf r);
+    }
+
+-- The fit as one computation: each evaluation of each objective call is asked for here. It reads every number of the request but the work limit.
+unfoldable pub fit : List Pair → Request → List ℕ → Work Eval Point Report
+fit rule r ls =
+    cond (admits r ls)
+    (descent (problemOf rule ls (planOf r)) (startOf r) >>= λ d. ret (reportOf r (countOf ls) (d .status) (d .x) (d .v) (d .evaluations) (d .iterations)))
+    (stop invalid)
+
+-- ---- the code's answers
+
+abbrev pub toFit : Ending → ℕ → Report → Fit
+toFit end n p =
+    record {
+      end = end;
+      status = p .status;
+      means = p .means;
+      sds = p .sds;
+      nll = p .nll;
+      norm = p .norm;
+      evaluations = record { 0 = p .evaluations };
+      iterations = record { 0 = p .iterations };
+      quadrature = record { 0 = n };
+      litters = p .litters;
+      active = p .active;
+    }
+
+abbrev pub noReport : Report
+noReport =
+    record { status = NoStatus; means = replicate 2 zero·; sds = replicate 2 zero·; nll = zero·; norm = zero·; evaluations = 0; iterations = 0; litters = 0; active = replicate 4 false }
+
+-- a refusal: its ending and its count, and zeros
+abbrev pub refusedOf : Ending → ℕ → Fit
+refusedOf end used = toFit end used noReport
+
+unfoldable pub wholeOf : List Pair → List ℕ → Plan → List Float → Descent
+wholeOf rule ls p x = told toDescent noDescended (metered at (p .limit .0) 0 (descent (problemOf rule ls p) x))
+
+unfoldable pub reportedOf : Request → ℕ → Descent → Fit
+reportedOf r n d =
+    cond (isRefused (d .end)) (refusedOf (d .end) (d .used .0)) (toFit Answered (d .used .0) (reportOf r n (d .status) (d .x) (d .v) (d .evaluations .0) (d .iterations .0)))
+
+unfoldable pub limitedFit : ℕ → Request → List ℕ → Fit
+limitedFit limit r ls = told toFit noReport (metered at limit 0 (fit legendreOf r ls))
+
+-- a work limit that is out of range is refused as every other fault is
+unfoldable pub fitOf : Request → List ℕ → Fit
+fitOf r ls = cond (validLimit (r .quadrature .0)) (limitedFit (r .quadrature .0) r ls) (refusedOf InvalidInput 0)

@@ -1,0 +1,160 @@
+// The fit of a request, and its report.
+use crate::descend::Descent;
+use crate::request::Request;
+use crate::search::Plan;
+use descent::Status;
+use legendre::Pair;
+use work::Ending;
+use work::FitEvaluations;
+use work::Iterations;
+use work::QuadratureEvaluations;
+ghost use mathlib.Core.Path.{_≡_};
+ghost use Prim.Native.Nat.{_^_, _<_};
+ghost use Rattle.legendre.specs.Legendre.{legendreOf};
+ghost use Rattle.objective.specs.Litters.{countOf};
+ghost use Rattle.fit.specs.Request.{startOf};
+ghost use Rattle.fit.specs.Fit.{planOf, sdOf, sdsOf, onBound, activeOf, refusedOf, wholeOf, reportedOf, fitOf};
+
+// `active` marks the coordinates that lie on a bound: two means, then two variances.
+pub struct Fit {
+    pub end: Ending,
+    pub status: Status,
+    pub means: [f64; 2],
+    pub sds: [f64; 2],
+    pub nll: f64,
+    pub norm: f64,
+    pub evaluations: FitEvaluations,
+    pub iterations: Iterations,
+    pub quadrature: QuadratureEvaluations,
+    pub litters: u64,
+    pub active: [bool; 4],
+}
+
+fn refusal(end: Ending, used: u64) -> Fit
+    ensures { λ r. ⌜ r ≡ refusedOf end used ⌝ }
+{
+    Fit {
+        end,
+        status: Status::NoStatus,
+        means: [0.0; 2],
+        sds: [0.0; 2],
+        nll: 0.0,
+        norm: 0.0,
+        evaluations: FitEvaluations(0),
+        iterations: Iterations(0),
+        quadrature: QuadratureEvaluations(used),
+        litters: 0,
+        active: [false; 4],
+    }
+}
+
+fn plan(r: Request) -> Plan
+    ensures { λ p. ⌜ p ≡ planOf r ⌝ }
+{
+    let most = r.evaluations;
+    let turns = r.iterations;
+    let limit = r.quadrature;
+    Plan {
+        lo: crate::request::low(r),
+        hi: crate::request::high(r),
+        tolerance: r.tolerance,
+        most,
+        turns,
+        limit,
+    }
+}
+
+fn sds(r: Request, x: [f64; 4]) -> [f64; 2]
+    ensures { λ s. ⌜ s ≡ sdsOf r x ⌝ }
+{
+    let b = r.sd;
+    let first = num::clamp(root::sqrt(x[2]), b.low[0], b.high[0]);
+    let second = num::clamp(root::sqrt(x[3]), b.low[1], b.high[1]);
+    [first, second]
+}
+
+fn on_bound(x: f64, lo: f64, hi: f64) -> bool
+    ensures { λ r. ⌜ r ≡ onBound x lo hi ⌝ }
+{
+    crate::step::either(x == lo, x == hi)
+}
+
+fn active(x: [f64; 4], lo: [f64; 4], hi: [f64; 4]) -> [bool; 4]
+    ensures { λ r. ⌜ r ≡ activeOf x lo hi ⌝ }
+{
+    let a = on_bound(x[0], lo[0], hi[0]);
+    let b = on_bound(x[1], lo[1], hi[1]);
+    let c = on_bound(x[2], lo[2], hi[2]);
+    let d = on_bound(x[3], lo[3], hi[3]);
+    [a, b, c, d]
+}
+
+fn reported(r: Request, n: u64, d: Descent) -> Fit
+    ensures { λ f. ⌜ f ≡ reportedOf r n d ⌝ }
+{
+    let end = d.end;
+    if work::refused(end) {
+        return refusal(end, d.used.0);
+    }
+    let lo = crate::request::low(r);
+    let hi = crate::request::high(r);
+    let x = d.x;
+    let v = d.v;
+    let status = d.status;
+    let evaluations = d.evaluations;
+    let iterations = d.iterations;
+    let quadrature = d.used;
+    Fit {
+        end: Ending::Answered,
+        status,
+        means: [x[0], x[1]],
+        sds: sds(r, x),
+        nll: v.nll,
+        norm: crate::search::norm_at(lo, hi, x, v),
+        evaluations,
+        iterations,
+        quadrature,
+        litters: n,
+        active: active(x, lo, hi),
+    }
+}
+
+fn whole(litters: &[u32], rule: [Pair; 16], p: Plan, x: [f64; 4]) -> Descent
+    requires { ⌜ (p .limit .0 < 2 ^ 63) × (p .most .0 < 2 ^ 63) × (p .turns .0 < 2 ^ 63) ⌝ }
+    ensures { λ r. ⌜ r ≡ wholeOf rule (now (litters .entry)) p x ⌝ }
+{
+    let limit = p.limit;
+    let o = objective::limited_objective(rule, x, litters, limit);
+    let end = o.end;
+    let used = o.used.0;
+    if work::refused(end) {
+        return crate::descend::refusal(end, used);
+    }
+    crate::descend::descend(litters, rule, p, x, crate::search::totals_of(o), used)
+}
+
+fn fit_admitted(r: Request, litters: &[u32]) -> Fit
+    requires { ⌜ (r .quadrature .0 < 2 ^ 63) × (r .evaluations .0 < 2 ^ 63) × (r .iterations .0 < 2 ^ 63) ⌝ }
+    ensures { λ f. ⌜ f ≡ reportedOf r (countOf (now (litters .entry))) (wholeOf legendreOf (now (litters .entry)) (planOf r) (startOf r)) ⌝ }
+{
+    let n = litters.len() / 3;
+    let d = whole(
+        litters,
+        legendre::legendre(),
+        plan(r),
+        crate::request::start(r),
+    );
+    reported(r, n as u64, d)
+}
+
+pub fn fit_probit_normal_binomial(r: Request, litters: &[u32]) -> Fit
+    ensures { λ f. ⌜ (f ≡ fitOf r (now (litters .entry))) × (now (litters .exit) ≡ now (litters .entry)) ⌝ }
+{
+    if !crate::request::up_to(20000000, r.quadrature.0) {
+        return refusal(Ending::InvalidInput, 0);
+    }
+    if !crate::request::admitted(r, litters) {
+        return refusal(Ending::InvalidInput, 0);
+    }
+    fit_admitted(r, litters)
+}
