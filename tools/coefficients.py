@@ -3,7 +3,7 @@
 #     NAME INDEX BITS      the number's place in its row of numbers, and its f64 in 16 hex digits
 #     NAME u64 BITS        a whole number
 # Usage: coefficients.py [FILE]      (without FILE: to standard output)
-# Needs mpmath (Debian: python3-mpmath). Takes about 11 s.
+# Needs mpmath (Debian: python3-mpmath). Takes some ten seconds.
 import math
 import struct
 import sys
@@ -174,7 +174,7 @@ def lgamma():
 
 def cos():
     pi = mpmath.pi
-    p1 = cut_to_multiple(pi, 31)  # in three parts: a whole number times the first two is exact
+    p1 = cut_to_multiple(pi, 31)  # in three parts: a half-odd number times the first two is exact
     p2 = cut_to_multiple(pi - p1, 64)
     put("COS_P1", p1)
     put("COS_P2", p2)

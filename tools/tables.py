@@ -70,7 +70,7 @@ def source(t, rows):
     yield from ("    pub %s: f64," % f for f in t.fields)
     yield "}"
     yield ""
-    yield "// Constants, since a `-` in an arm would be a step of the code: with 92 rows the check takes ten times as long."
+    yield "// Constants, since a `-` in an arm would be a step of the code: a long table would take ten times as long to check."
     for k, row in enumerate(rows):
         yield from constant("ROW%d" % k, t, map(decimal, row))
     yield from constant("NONE", t, ["0.0"] * len(t.fields))

@@ -16,7 +16,7 @@ cos-invpi = bits 0x3fd4_5f30_6dc9_c883
 abbrev pub cos-m : Float
 cos-m = bits 0x4338_0000_0000_0000
 
--- the sum from which there is no answer: about 262144 π
+-- the sum from which there is no answer, cos-m and 262144: x is about 262144 π there
 abbrev pub cos-end : Float
 cos-end = bits 0x4338_0000_0004_0000
 

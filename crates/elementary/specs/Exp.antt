@@ -1,4 +1,4 @@
--- The exponential, step by step. A NaN passes both tests of `expOf` by, and comes through the series.
+-- The exponential, step by step. A NaN fails both tests of `expOf`, and comes through the series.
 use mathlib.Core.Bool.{cond}
 use Prim.Native.Nat.{ℕ, _-_, _*_, _/_, _%_, _^_}
 use lib.Dec.{ltb}
@@ -14,7 +14,7 @@ exp-inv = bits 0x4057_1547_652b_82fe
 abbrev pub exp-m : Float
 exp-m = bits 0x4338_0000_0002_0000
 
--- the sum from which the result is infinite, and the one up to which it is zero
+-- outer cuts: from the first sum on the result is infinite in any case, up to the second it is zero
 abbrev pub exp-high : Float
 exp-high = bits 0x4338_0000_0003_0040
 
@@ -93,11 +93,11 @@ expSmall x =
     let f = x ⊖ (h ⊖ one·) in
     h ⊕ (f ⊕ z ⊗ (p ⊕ z4 ⊗ q))
 
--- what is left of x beside n ln 2 / 64, where w is n and exp-m
+-- what is left of x beside n ln 2 / 64, where w is the sum of n and exp-m
 abbrev pub expReduced : Float → Float → Float
 expReduced x w = let n = w ⊖ exp-m in (x ⊖ n ⊗ exp-l1) ⊖ n ⊗ exp-l2
 
--- near underflow and overflow 2^(e - 2048) is put on in two steps, the first of them exact
+-- near underflow and overflow 2^(e - 2048) is put on in two steps, the first of them exact; the two tests are never met (e is 971 to 3072) and keep the steps total
 unfoldable pub expFar : Float → Float → ℕ → Float
 expFar t p e =
     let a = e / 2 in

@@ -74,14 +74,14 @@ productOf x = productFrom 22 (x ⊖ one·) one·
 unfoldable pub lgammaBelowOne : Float → Float
 lgammaBelowOne x = cond (lt zero· x) ((x ⊗ (x ⊖ one·)) ⊗ lgammaPoly (x ⊖ half·) ⊖ logOf x) (cond (eq x zero·) infinity· nan)
 
--- a whole x leaves y at 1 or, from 1, at 0: the product is the factorial itself, and exact
+-- a whole x leaves y at 1, or at 0 where x is 1: the product is the factorial itself, and exact
 unfoldable pub lgammaByProduct : Float → Float
 lgammaByProduct x =
     let f = productOf x in
     let l = logOf (f .p) in
     cond (eq (f .y) one·) l (cond (eq (f .y) zero·) l (l ⊕ (f .y ⊗ (f .y ⊖ one·)) ⊗ lgammaPoly (f .y ⊖ half·)))
 
--- (x - 1/2) (log x - 1) + (log 2π - 1) / 2 + 1/12x - .., with log x in two parts; the product with the part that is a multiple of 2^-26 is exact at a whole x
+-- (x - 1/2) (log x - 1) + (log 2π - 1) / 2 + 1/12x - .., with log x in two parts; the product with the part that is a multiple of 2^-26 is exact at a whole x below 2^22
 abbrev pub stirling : Float → Float → Float → Float
 stirling x hi lo =
     let a = x ⊖ half· in
@@ -92,7 +92,7 @@ stirling x hi lo =
     let w = u ⊗ series (stir0 ∷ stir1 ∷ stir2 ∷ stir3 ∷ stir4 ∷ []) (u ⊗ u) in
     a ⊗ hs ⊕ (a ⊗ (hl ⊕ lo) ⊕ (lgam-c ⊕ w))
 
--- a NaN passes every test by, and plus infinity too
+-- a NaN fails every test, and so does plus infinity
 unfoldable pub lgammaOf : Float → Float
 lgammaOf x =
     let l = logParts (bitsOf x) log-bias in

@@ -7,7 +7,7 @@ use Rattle.num.specs.F64.{_⊕_, _⊖_, _⊗_, whole, bits, bitsOf, zero·, inf
 use Rattle.tables.specs.Log.{logRow}
 use Rattle.elementary.specs.declared.log_parts.LogParts.{LogParts}
 
--- the bits of the least number that is reduced to itself, about 0.698, and the bits of 1 less those
+-- the bits where the range of the reduced number z begins, about 0.698, and the bits of 1 less those
 abbrev pub log-off : ℕ
 log-off = 0x3fe6_5555_0000_0000
 
@@ -44,7 +44,7 @@ log-c6 = bits 0xbfc5_55d8_0c66_c7ab
 abbrev pub log-c7 : Float
 log-c7 = bits 0x3fc2_49a0_e4e3_5109
 
--- The number with the bits b, its exponent counted from sub, is z 2^k; its logarithm is k ln 2, the row's, and that of z by the row's centre.
+-- The number with the bits b, its exponent counted from sub, is z 2^k; its logarithm is k ln 2, the row's, and that of z / centre.
 -- The sum of what is a multiple of 2^-42 is exact: that is `hi`, and `lo` is the rest.
 unfoldable pub logParts : ℕ → Float → LogParts
 logParts b sub =
@@ -68,7 +68,7 @@ logSum p = p .hi ⊕ p .lo
 abbrev pub log-bias : Float
 log-bias = bits 0x408f_f800_0000_0000
 
--- below the least normal number: the significand is brought up by its leading zeros, and the exponent counts from so much more
+-- below the least normal number: the significand is brought up by its leading zeros, and the exponent counts from so much more; its leading bit then stands as exponent field 1
 unfoldable pub logSmall : Float → Float
 logSmall x =
     let m = bitsOf x % 2 ^ 52 in
@@ -79,6 +79,6 @@ logSmall x =
 abbrev pub least-normal : Float
 least-normal = bits 0x0010_0000_0000_0000
 
--- a NaN passes both tests by, and plus infinity the second
+-- a NaN and plus infinity fail both tests
 unfoldable pub logOf : Float → Float
 logOf x = cond (lt x least-normal) (logSmall x) (cond (lt x infinity·) (logSum (logParts (bitsOf x) log-bias)) x)

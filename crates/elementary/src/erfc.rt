@@ -1,4 +1,4 @@
-// The complementary error function: rows of Taylor polynomials up to 5.72, a series in 1 / a² times an exponential beyond.
+// The complementary error function: rows of fitted polynomials up to 5.72, a series in 1 / a² times an exponential beyond.
 ghost use mathlib.Core.Path.{_≡_};
 ghost use Rattle.elementary.specs.Erfc.{erfcOf, erfcPos, erfcAtRow, erfcTail, erfcSeries};
 

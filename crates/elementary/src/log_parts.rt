@@ -3,7 +3,7 @@ ghost use mathlib.Core.Path.{_≡_};
 ghost use Prim.Native.Nat.{_<_, _^_};
 ghost use Rattle.elementary.specs.Log.{logParts};
 
-// The bits of the least number that is reduced to itself, and of 1 less those.
+// The bits where the range of the reduced number begins, and of 1 less those.
 const LOG_OFF: u64 = 0x3fe6_5555_0000_0000;
 
 const LOG_D: u64 = 0x0009_aaab_0000_0000;

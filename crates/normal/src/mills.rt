@@ -11,7 +11,7 @@ pub struct LogMills {
     pub mills: f64,
 }
 
-fn log_phi(x: f64) -> f64
+pub fn log_phi(x: f64) -> f64
     ensures { λ r. ⌜ r ≡ logPhi x ⌝ }
 {
     -0.5 * x * x - 0.5 * LOG_TWO_PI

@@ -63,11 +63,10 @@ fn combined(y: f64, f: f64, lp: f64, lm: f64, p: [f64; 4], q: [f64; 4]) -> Condi
 pub fn conditional(eta: f64, successes: u32, total: u32) -> ConditionalLog
     ensures { λ r. ⌜ r ≡ conditionalOf eta successes total ⌝ }
 {
-    let low = crate::mills::normal(eta);
-    let high = crate::mills::normal(-eta);
-    let p = mills_derivatives(eta, low.mills);
-    let q = mills_derivatives(-eta, high.mills);
+    let n = crate::twins::at_both(eta);
+    let p = mills_derivatives(eta, n.low.mills);
+    let q = mills_derivatives(-eta, n.high.mills);
     let y = successes as f64;
     let f = failures(successes, total) as f64;
-    combined(y, f, low.log, high.log, p, q)
+    combined(y, f, n.low.log, n.high.log, p, q)
 }

@@ -6,7 +6,7 @@ ghost use lib.Ieee.{nan};
 ghost use Rattle.num.specs.F64.{infinity·};
 ghost use Rattle.num.specs.Helpers.{absOf, isFinite, maxOf, minOf, clampOf, powiOf, sumOf};
 
-// 0 - x is +0 at both zeros, and a NaN passes the test by.
+// 0 - x is +0 at both zeros, and a NaN fails the test.
 pub fn abs(x: f64) -> f64
     ensures { λ r. ⌜ r ≡ absOf x ⌝ }
 {

@@ -1,3 +1,4 @@
 pub mod Litters
 pub mod Totals
 pub mod Objective
+pub mod Bound

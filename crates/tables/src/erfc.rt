@@ -19,7 +19,7 @@ pub struct ErfcRow {
     pub a11: f64,
 }
 
-// Constants, since a `-` in an arm would be a step of the code: with 92 rows the check takes ten times as long.
+// Constants, since a `-` in an arm would be a step of the code: a long table would take ten times as long to check.
 const ROW0: ErfcRow = ErfcRow {
     centre: 0.0,
     value: 1.0,

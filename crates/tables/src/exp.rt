@@ -8,7 +8,7 @@ pub struct ExpRow {
     pub rest: f64,
 }
 
-// Constants, since a `-` in an arm would be a step of the code: with 92 rows the check takes ten times as long.
+// Constants, since a `-` in an arm would be a step of the code: a long table would take ten times as long to check.
 const ROW0: ExpRow = ExpRow {
     value: 1.0,
     rest: 0.0,

@@ -10,7 +10,7 @@ pub struct LogRow {
     pub low: f64,
 }
 
-// Constants, since a `-` in an arm would be a step of the code: with 92 rows the check takes ten times as long.
+// Constants, since a `-` in an arm would be a step of the code: a long table would take ten times as long to check.
 const ROW0: LogRow = LogRow {
     centre: 0.7021484375,
     inverse: 1.4242002781641168,

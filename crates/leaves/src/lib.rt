@@ -1,0 +1,179 @@
+// The inner functions for comparisons from outside: numbers in, results into buffers that the caller lends.
+// The status is 1 where a buffer is too short, and then nothing is written; else 0.
+mod put;
+
+use work::QuadratureEvaluations;
+ghost use mathlib.Core.Path.{_≡_};
+ghost use Rattle.posterior.specs.Tail.{tailBoundOf};
+ghost use Prim.Native.Nat.{_<_, _≤_};
+ghost use lib.ListN.{length};
+
+// Two numbers: the logarithm and the ratio.
+#[no_mangle]
+pub extern "C" fn leaf_normal(x: f64, out: &mut [f64]) -> u64
+    ensures { λ r. ⌜ (length (now (out .entry)) < 2 → r ≡ 1) × (2 ≤ length (now (out .entry)) → r ≡ 0) ⌝ }
+{
+    if out.len() < 2 {
+        return 1;
+    }
+    let n = normal::normal(x);
+    out[0] = n.log;
+    out[1] = n.mills;
+    0
+}
+
+#[no_mangle]
+pub extern "C" fn leaf_mills(x: f64, r: f64, out: &mut [f64]) -> u64
+    ensures { λ r. ⌜ (length (now (out .entry)) < 4 → r ≡ 1) × (4 ≤ length (now (out .entry)) → r ≡ 0) ⌝ }
+{
+    if out.len() < 4 {
+        return 1;
+    }
+    let m = normal::moments::mills_derivatives(x, r);
+    crate::put::numbers(&m, out);
+    0
+}
+
+// Nine numbers: the logarithm, the score, the curvature, six moments.
+#[no_mangle]
+pub extern "C" fn leaf_conditional(eta: f64, successes: u32, total: u32, out: &mut [f64]) -> u64
+    ensures { λ r. ⌜ (length (now (out .entry)) < 9 → r ≡ 1) × (9 ≤ length (now (out .entry)) → r ≡ 0) ⌝ }
+{
+    if out.len() < 9 {
+        return 1;
+    }
+    let c = normal::conditional(eta, successes, total);
+    let m = c.moments;
+    let v = [
+        c.log,
+        c.score,
+        c.curvature,
+        m[0],
+        m[1],
+        m[2],
+        m[3],
+        m[4],
+        m[5],
+    ];
+    crate::put::numbers(&v, out);
+    0
+}
+
+// Sixteen nodes, each with its weight after it.
+#[no_mangle]
+pub extern "C" fn leaf_legendre(out: &mut [f64]) -> u64
+    ensures { λ r. ⌜ (length (now (out .entry)) < 32 → r ≡ 1) × (32 ≤ length (now (out .entry)) → r ≡ 0) ⌝ }
+{
+    if out.len() < 32 {
+        return 1;
+    }
+    let rule = legendre::legendre();
+    crate::put::pairs(rule, out);
+    0
+}
+
+#[no_mangle]
+pub extern "C" fn leaf_tail_bound(relative: f64, slope: f64, eta: f64, sd: f64, total: u32) -> f64
+    ensures { λ r. ⌜ r ≡ tailBoundOf relative slope eta sd total ⌝ }
+{
+    posterior::tail::tail_bound(relative, slope, eta, sd, total)
+}
+
+// Eight numbers: the value, the gradient, the Hessian by rows, the refinement. Three counts: the ending's number, its reason, the evaluations.
+#[no_mangle]
+pub extern "C" fn leaf_row(
+    mean: f64,
+    variance: f64,
+    successes: u32,
+    total: u32,
+    limit: u64,
+    out: &mut [f64],
+    counts: &mut [u64],
+) -> u64
+    ensures { λ r. ⌜ (length (now (out .entry)) < 8 → r ≡ 1) × (length (now (counts .entry)) < 3 → r ≡ 1) ⌝ }
+    ensures { λ r. ⌜ (8 ≤ length (now (out .entry)) → 3 ≤ length (now (counts .entry)) → r ≡ 0) ⌝ }
+{
+    if out.len() < 8 {
+        return 1;
+    }
+    if counts.len() < 3 {
+        return 1;
+    }
+    let rule = legendre::legendre();
+    let r = row::row_objective(
+        0,
+        successes,
+        total,
+        rule,
+        mean,
+        variance,
+        QuadratureEvaluations(limit),
+    );
+    let g = r.gradient;
+    let h = r.hessian;
+    let end = r.end;
+    let v = [r.nll, g[0], g[1], h[0], h[1], h[2], h[3], r.refinement];
+    crate::put::numbers(&v, out);
+    crate::put::counts(work::number(end), work::reason(end), r.used.0, counts);
+    0
+}
+
+// Twenty-two numbers: the value, the gradient, the Hessian by rows, the refinement. Three counts: the ending's number, its reason, the evaluations.
+#[no_mangle]
+pub extern "C" fn leaf_objective(
+    x0: f64,
+    x1: f64,
+    x2: f64,
+    x3: f64,
+    litters: &[u32],
+    limit: u64,
+    out: &mut [f64],
+    counts: &mut [u64],
+) -> u64
+    ensures { λ r. ⌜ (length (now (out .entry)) < 22 → r ≡ 1) × (length (now (counts .entry)) < 3 → r ≡ 1) ⌝ }
+    ensures { λ r. ⌜ (22 ≤ length (now (out .entry)) → 3 ≤ length (now (counts .entry)) → r ≡ 0) ⌝ }
+{
+    if out.len() < 22 {
+        return 1;
+    }
+    if counts.len() < 3 {
+        return 1;
+    }
+    let rule = legendre::legendre();
+    let o = objective::limited_objective(
+        rule,
+        [x0, x1, x2, x3],
+        litters,
+        QuadratureEvaluations(limit),
+    );
+    let g = o.gradient;
+    let h = o.hessian;
+    let end = o.end;
+    let v = [
+        o.nll,
+        g[0],
+        g[1],
+        g[2],
+        g[3],
+        h[0],
+        h[1],
+        h[2],
+        h[3],
+        h[4],
+        h[5],
+        h[6],
+        h[7],
+        h[8],
+        h[9],
+        h[10],
+        h[11],
+        h[12],
+        h[13],
+        h[14],
+        h[15],
+        o.refinement,
+    ];
+    crate::put::numbers(&v, out);
+    crate::put::counts(work::number(end), work::reason(end), o.used.0, counts);
+    0
+}

@@ -1,0 +1,106 @@
+// The normal distribution at x and at -x at once: erfc(-t) is 2 - erfc(t), so one erfc serves both.
+use crate::mills::LogMills;
+ghost use mathlib.Core.Path.{_≡_};
+ghost use lib.Ieee.{neg};
+ghost use Rattle.elementary.specs.Erfc.{erfcOf};
+ghost use Rattle.normal.specs.Normal.{normalOf};
+ghost use Rattle.normal.specs.Twins.{byCdf, centresOf};
+
+const SQRT_2: f64 = 1.4142135623730951;
+
+pub struct Twins {
+    pub low: LogMills,
+    pub high: LogMills,
+}
+
+// erfc at a number, and at the number across zero.
+pub struct Erfcs {
+    pub at: f64,
+    pub across: f64,
+}
+
+fn apart(x: f64) -> Erfcs
+    ensures { λ r. ⌜ (r .at ≡ erfcOf x) × (r .across ≡ erfcOf (neg x)) ⌝ }
+{
+    Erfcs {
+        at: elementary::erfc::erfc(x),
+        across: elementary::erfc::erfc(-x),
+    }
+}
+
+// The tests of y are never met; they spare a proof of what y is.
+fn below(x: f64) -> Erfcs
+    ensures { λ r. ⌜ (r .at ≡ erfcOf x) × (r .across ≡ erfcOf (neg x)) ⌝ }
+{
+    let y = -x;
+    if x < 0.0 {
+        if y < -6.0 {
+            return apart(x);
+        }
+        if y < 0.0 {
+            return apart(x);
+        }
+        let p = elementary::erfc::erfc_pos(y);
+        if x < -6.0 {
+            return Erfcs { at: 2.0, across: p };
+        }
+        return Erfcs {
+            at: 2.0 - p,
+            across: p,
+        };
+    }
+    apart(x)
+}
+
+fn erfc_at_both(x: f64) -> Erfcs
+    ensures { λ r. ⌜ (r .at ≡ erfcOf x) × (r .across ≡ erfcOf (neg x)) ⌝ }
+{
+    if x < 0.0 {
+        return below(x);
+    }
+    let b = below(-x);
+    Erfcs {
+        at: b.across,
+        across: b.at,
+    }
+}
+
+fn by_cdf(phi: f64, cdf: f64) -> LogMills
+    ensures { λ r. ⌜ r ≡ byCdf phi cdf ⌝ }
+{
+    let log = elementary::log::log(cdf);
+    LogMills {
+        log,
+        mills: elementary::exp::exp(phi - log),
+    }
+}
+
+fn centres(x: f64) -> Twins
+    ensures { λ r. ⌜ r ≡ centresOf x ⌝ }
+{
+    let e = erfc_at_both(-x / SQRT_2);
+    let phi = crate::mills::log_phi(x);
+    let low = by_cdf(phi, 0.5 * e.at);
+    let high = by_cdf(phi, 0.5 * e.across);
+    Twins { low, high }
+}
+
+fn far(x: f64) -> Twins
+    ensures { λ r. ⌜ (r .low ≡ normalOf x) × (r .high ≡ normalOf (neg x)) ⌝ }
+{
+    let low = crate::mills::normal(x);
+    let high = crate::mills::normal(-x);
+    Twins { low, high }
+}
+
+pub fn at_both(x: f64) -> Twins
+    ensures { λ r. ⌜ (r .low ≡ normalOf x) × (r .high ≡ normalOf (neg x)) ⌝ }
+{
+    if x < -8.0 {
+        return far(x);
+    }
+    if -x < -8.0 {
+        return far(x);
+    }
+    centres(x)
+}

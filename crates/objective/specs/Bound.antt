@@ -1,0 +1,67 @@
+-- How many evaluations an objective makes at most: 32,933 a litter, so 4,215,424 for 128. The source's cap of 8,388,608 never binds, and the objective
+-- called alone never ends in WorkBudget.
+use mathlib.Core.Path.{_≡_, refl, ap, _∙_}
+use mathlib.Core.Bool.{Bool, true, false, _&&_}
+use mathlib.Core.List.{List}
+use Prim.Native.Nat.{ℕ, zero, suc, _+_, _*_, _%_, _≤_}
+use native.Mathlib.Nat.{suc-mul, add-comm, sub-zero, zero-add}
+use native.Mathlib.Omega.{arith}
+use borrow.Author.Tests.{leb-true}
+use lib.Dec.{leb, eqb, lit≤}
+use lib.ListN.{length}
+use lib.Ieee.{Float}
+use Rattle.work.specs.declared.QuadratureEvaluations.{QuadratureEvaluations}
+use Rattle.work.specs.Work.{run, listed, listedL, metered, told}
+use Rattle.work.specs.AtMost.{AtMost, rets, stops, both, more, at-most-listed}
+use Rattle.work.specs.Metered.{metered-is, split}
+use Rattle.work.specs.Share.{in-full}
+use Rattle.legendre.specs.declared.Pair.{Pair}
+use Rattle.legendre.specs.Legendre.{legendreOf}
+use Rattle.posterior.specs.Integrand.{at}
+use Rattle.row.specs.Bound.{share-at-most}
+use Rattle.objective.specs.declared.totals.Totals.{Totals}
+use Rattle.objective.specs.Litters.{countOf, validLitters, validPoint}
+use Rattle.objective.specs.Totals.{noTotals}
+use Rattle.objective.specs.Objective.{rows, admits, objective, toObjective, limitedOf, objectiveOf}
+
+and-first : (a b : Bool) → (a && b) ≡ true → a ≡ true
+and-first true b h = refl
+and-first false b h = h
+
+and-second : (a b : Bool) → (a && b) ≡ true → b ≡ true
+and-second true b h = h
+and-second false b h = cc
+
+module _ (rule : List Pair) (x : List Float) (ls : List ℕ) where
+  pub rows-at-most : (n i : ℕ) (t : Totals) → AtMost (n * 32933) (rows rule x ls n i t)
+  unfolding rows
+  rows-at-most zero i t = rets
+  rows-at-most (suc n) i t = rw (suc-mul n 32933, add-comm (n * 32933) 32933) (both (n * 32933) (share-at-most _ _ _ rule _ _) (λ s. rows-at-most n (i + 1) _))
+
+  -- at most 128 litters where the litters are valid
+  few : validLitters ls ≡ true → countOf ls ≤ 128
+  unfolding validLitters
+  few h = leb-true (countOf ls) 128 (and-first _ _ (and-second (leb 1 (countOf ls)) _ (and-second (eqb (length ls % 3) 0) _ h)))
+
+  bounded : admits x ls ≡ true → countOf ls * 32933 ≤ 4215424
+  bounded t = let f = few (and-second (validPoint x) _ t) in omega arith
+
+  pub objective-at-most : AtMost 4215424 (objective rule x ls)
+  unfolding objective
+  objective-at-most = split (admits x ls) (λ t. rw t (more (bounded t) (rows-at-most (countOf ls) 0 noTotals))) (λ t. rw t stops)
+
+  -- the evaluations that it lists
+  pub objective-listed : length (listed at (objective rule x ls)) ≤ 4215424
+  objective-listed = at-most-listed at objective-at-most
+
+  -- the count that the code reports is the length of the list made under its limit
+  pub objective-count : (limit : QuadratureEvaluations) → limitedOf rule x ls limit .used .0 ≡ length (listedL at (limit .0) (objective rule x ls))
+  unfolding limitedOf
+  objective-count limit =
+      let w = objective rule x ls in
+      ap (λ m. m .used) (metered-is at (limit .0) 0 w) ∙ rw (sub-zero (limit .0), zero-add (length (listedL at (limit .0) w)))
+
+-- called alone it is the run without a limit
+pub objective-in-full : (x : List Float) (ls : List ℕ) → objectiveOf x ls ≡ told toObjective noTotals (record { ended = run at (objective legendreOf x ls); used = length (listed at (objective legendreOf x ls)) })
+unfolding objectiveOf limitedOf
+objective-in-full x ls = rw (in-full at (objective legendreOf x ls) 8388608 (objective-at-most legendreOf x ls) (lit≤ tt))

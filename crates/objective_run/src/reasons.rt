@@ -1,0 +1,73 @@
+// Each reason of a Domain.
+use posterior::integrand::Posterior;
+use posterior::tail::Hill;
+use posterior::tail::Range;
+use work::QuadratureEvaluations;
+
+fn row(name: &[u8], successes: u32, total: u32, mean: f64, variance: f64) {
+    let rule = legendre::legendre();
+    let r = row::row_objective(
+        0,
+        successes,
+        total,
+        rule,
+        mean,
+        variance,
+        QuadratureEvaluations(8388608),
+    );
+    crate::say::row(name, r);
+}
+
+pub fn modes() {
+    // The mode lies at half the mean, past the last end tried, 65536.
+    row(b"1: mean -1000000", 1, 1, -1000000.0, 1.0);
+    // The least step of the argument moves the slope by more than it may be off.
+    row(b"2: variance 1e12", 7, 1000, 0.0, 1e12);
+}
+
+pub fn sums() {
+    // No test refuses a NaN before the sums are looked at.
+    row(b"4: mean NaN", 1, 2, num::not_a_number(), 1.0);
+    // A valid request: rounding moves the sums of so large a litter by more than two rules may differ.
+    crate::refusals::at(
+        b"5: 500 of 1000, variance 9",
+        [0.0, 0.0, 9.0, 9.0],
+        &[500u32, 1000, 0],
+    );
+}
+
+fn usual() -> Posterior {
+    Posterior {
+        litter: 0,
+        successes: 1,
+        total: 2,
+        mean: 0.0,
+        sd: 1.0,
+        evaluations: QuadratureEvaluations(0),
+        limit: QuadratureEvaluations(8388608),
+    }
+}
+
+fn range(name: &[u8], r: Range) {
+    let end = r.end;
+    crate::say::ended(name, end, r.p.evaluations.0);
+}
+
+pub fn tails() {
+    // No bound is below zero.
+    let h = Hill {
+        total: 2,
+        mean: 0.0,
+        sd: 1.0,
+        mode: 0.0,
+        log: -2.0,
+        delta: 1.0,
+        goal: -1.0,
+    };
+    range(b"3: goal -1", posterior::tail::bounded(usual(), h));
+    // Thirty doublings of so small a scale stay at the mode.
+    range(
+        b"3: curvature 1e60",
+        row::peak::limits(usual(), 0.0, -2.0, 1e60),
+    );
+}
