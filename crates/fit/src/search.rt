@@ -115,7 +115,7 @@ fn judged(
     nothing(Ending::Answered, used, e)
 }
 
-// One trial at alpha along d, with e evaluations of the objective and `used` of the integrand behind it.
+// One trial at alpha along d, with `made` evaluations of the objective and `used` of the integrand behind it.
 fn tried(
     litters: &[u32],
     rule: [Pair; 16],
@@ -124,19 +124,20 @@ fn tried(
     v: Totals,
     d: [f64; 4],
     alpha: f64,
-    e: u64,
+    made: u64,
     used: u64,
 ) -> Attempt
-    requires { ⌜ (used ≤ p .limit .0) × (p .limit .0 < 2 ^ 63) × (e < 2 ^ 63) ⌝ }
-    ensures { λ r. ⌜ r ≡ triedOf rule (now (litters .entry)) p x v d alpha e used ⌝ }
+    requires { ⌜ (used ≤ p .limit .0) × (p .limit .0 < 2 ^ 63) × (made < 2 ^ 63) ⌝ }
+    ensures { λ r. ⌜ r ≡ triedOf rule (now (litters .entry)) p x v d alpha made used ⌝ }
 {
     let lo = p.lo;
     let hi = p.hi;
     let gradient = v.gradient;
+    let more = made + 1;
     let next = crate::step::candidate(x, d, alpha, lo, hi);
     let slope = crate::step::slope(gradient, next, x);
     if crate::step::either(0.0 <= slope, crate::step::still(next, x)) {
-        return nothing(Ending::Answered, used, e);
+        return nothing(Ending::Answered, used, made);
     }
     let o = objective::limited_objective(
         rule,
@@ -149,7 +150,7 @@ fn tried(
     if work::refused(end) {
         return nothing(end, spent, 0);
     }
-    judged(p, x, v, slope, next, totals_of(o), e + 1, spent)
+    judged(p, x, v, slope, next, totals_of(o), more, spent)
 }
 
 pub fn search(

@@ -45,6 +45,7 @@ pub tried-spec : {M : Type 1} → statement M
 tried-spec =
     tie.close
     (tie.spec
+    (λ c. omega (arith, c .before .before .before .before .pre .2))
     (λ c κs. search needs)
     (λ c κs. search needs)
     (λ c κs. search needs)
@@ -58,6 +59,5 @@ tried-spec =
     (λ c κs. search needs)
     returns-2
     (λ c κs. search needs)
-    (λ c. omega (arith, c .before .before .before .before .before .before .before .before .before .before .before .before .before .before .before .pre .2))
     (λ c κs. search needs)
     returns-3)
