@@ -1,0 +1,75 @@
+-- Example A of document 01: its whole answer, as antt computes it from the fit's definition; and its refusals.
+use mathlib.Core.Path.{_≡_, refl}
+use mathlib.Core.Bool.{true, false}
+use mathlib.Core.List.{List, [], _∷_}
+use Prim.Native.Nat.{ℕ}
+use lib.Count.{leadingZeros}
+use lib.Ieee.{Float, add, sub, mul, div, neg, lt, le, eq, ne, ofBits, ofInt, toBits}
+use Rattle.num.specs.F64.{bits}
+use Rattle.num.specs.Helpers.{absOf, isFinite, maxOf, minOf, clampOf, powiFrom, powiOf}
+use Rattle.root.specs.Steps.{sqrtOf}
+use Rattle.tables.specs.Exp.{expRow, expRows}
+use Rattle.tables.specs.Log.{logRow, logRows}
+use Rattle.tables.specs.Erfc.{erfcRow, erfcRows}
+use Rattle.elementary.specs.Exp.{expOf, expLow, expBelow, expAbove, expFinish, expFar}
+use Rattle.elementary.specs.Log.{logOf, logSmall, logParts}
+use Rattle.elementary.specs.Erfc.{erfcOf, erfcPos, erfcTail}
+use Rattle.elementary.specs.Lgamma.{lgammaOf, lgammaBelowOne, lgammaByProduct, productOf, productFrom}
+use Rattle.work.specs.declared.Ending.the-variants.{Answered, InvalidInput, WorkBudget}
+use Rattle.work.specs.Work.{_>>=_, metered}
+use Rattle.normal.specs.Normal.{normalCentre, normalOf}
+use Rattle.normal.specs.Conditional.{combinedOf, conditionalOf}
+use Rattle.posterior.specs.Integrand as integrand
+use Rattle.row.specs.Coefficient.{coefficientOf}
+use Rattle.row.specs.Share.{share}
+use Rattle.objective.specs.Litters as litters
+use Rattle.objective.specs.Objective.{rows, objective}
+use Rattle.descent.specs.declared.Status.the-variants.{Converged}
+use Rattle.descent.specs.Descent.{descend}
+use Rattle.fit.specs.declared.request.Bounds.{Bounds}
+use Rattle.fit.specs.declared.request.Request.{Request}
+use Rattle.fit.specs.declared.report.Fit.{Fit}
+use Rattle.fit.specs.Request.{validMean, validSd, validMeans, validSds, validControls, ofGroup, twoEach, admits}
+use Rattle.fit.specs.Step.{projectOf, normOf}
+use Rattle.fit.specs.Fit.{activeOf, sdsOf, fit, limitedFit, fitOf, refusedOf}
+
+abbrev pub both : Float → List Float
+both x = x ∷ x ∷ []
+
+-- means within [-1, 1] and SDs within [0, 1], all from 0; 10 evaluations, tolerance 2^-20
+abbrev pub example-a : ℕ → ℕ → Request
+example-a iterations quadrature =
+    record {
+      mean = record { low = both (bits 0xbff0_0000_0000_0000); high = both (bits 0x3ff0_0000_0000_0000); start = both (bits 0) };
+      sd = record { low = both (bits 0); high = both (bits 0x3ff0_0000_0000_0000); start = both (bits 0) };
+      evaluations = record { 0 = 10 };
+      iterations = record { 0 = iterations };
+      quadrature = record { 0 = quadrature };
+      tolerance = bits 0x3eb0_0000_0000_0000;
+    }
+
+-- one of two pups in each of two litters of each group
+abbrev pub four-litters : List ℕ
+four-litters = 1 ∷ 2 ∷ 0 ∷ 1 ∷ 2 ∷ 0 ∷ 1 ∷ 2 ∷ 1 ∷ 1 ∷ 2 ∷ 1 ∷ []
+
+abbrev pub answer-a : Fit
+answer-a =
+    record {
+      end = Answered;
+      status = Converged;
+      means = both (bits 0);
+      sds = both (bits 0);
+      nll = bits 0x4006_2e42_fefa_39ef;
+      norm = bits 0;
+      evaluations = record { 0 = 1 };
+      iterations = record { 0 = 0 };
+      quadrature = record { 0 = 4 };
+      litters = 4;
+      active = false ∷ false ∷ true ∷ true ∷ [];
+    }
+
+-- four evaluations are enough; three give WorkBudget with count 3; no iterations are InvalidInput
+pub example-a-is :
+    (fitOf (example-a 10 4) four-litters ≡ answer-a) × (fitOf (example-a 10 3) four-litters ≡ refusedOf WorkBudget 3) × (fitOf (example-a 0 4) four-litters ≡ refusedOf InvalidInput 0)
+unfolding fitOf limitedFit fit sdsOf activeOf projectOf normOf admits twoEach ofGroup validControls validSds validMeans validSd validMean descend objective rows litters.validPoint litters.validVariance litters.validMean litters.validLitters litters.validFrom litters.validLitter share coefficientOf integrand.aloneOf integrand.atOf integrand.integrandOf conditionalOf combinedOf normalOf normalCentre _>>=_ metered lgammaOf lgammaByProduct lgammaBelowOne productOf productFrom erfcOf erfcPos erfcTail erfcRow erfcRows logOf logParts logSmall logRow logRows expOf expLow expBelow expAbove expFinish expFar expRow expRows sqrtOf absOf isFinite maxOf minOf clampOf powiOf powiFrom leadingZeros toBits add sub mul div neg lt le eq ne ofBits ofInt
+example-a-is = (refl, refl, refl)
