@@ -1,0 +1,2 @@
+// A form's bytes read from a text, and written into a buffer.
+pub mod digits;

@@ -1,0 +1,4 @@
+// A request's text read, and its answer printed.
+pub fn nothing() -> u64 {
+    0
+}
