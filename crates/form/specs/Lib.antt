@@ -1,4 +1,5 @@
 pub mod Digits
 pub mod Form
 pub mod Read
+pub mod Says
 pub mod Written

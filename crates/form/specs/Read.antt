@@ -34,9 +34,14 @@ readMore v (c ∷ s) = cond (isDigit c) (cond (ltb (10 * v + (c - 48)) (2 ^ 32))
 unfoldable pub readCount : List ℕ → Field
 readCount s = cond (eqb (first s) 48) (found 0 (after s)) (cond (isDigit (first s)) (readMore (first s - 48) (after s)) departs)
 
--- what stands where the form has the byte c; a byte that stands for itself has no value
+-- a byte that stands for itself has no value
+unfoldable pub readByte : ℕ → List ℕ → Field
+readByte c [] = departs
+readByte c (d ∷ s) = cond (eqb d c) (found 0 s) departs
+
+-- what stands where the form has the byte c
 unfoldable pub readField : ℕ → List ℕ → Field
-readField c s = cond (isCount c) (readCount s) (cond (isBits c) (readHex 16 0 s) (cond (eqb (first s) c) (found 0 (after s)) departs))
+readField c s = cond (isCount c) (readCount s) (cond (isBits c) (readHex 16 0 s) (readByte c s))
 
 pub data Reading : Type 0 where
   done : List ℕ → List ℕ → Reading

@@ -1,2 +1,3 @@
-// A form's bytes read from a text, and written into a buffer.
+// A form's values read from a text, and put into a buffer.
 pub mod digits;
+pub mod token;
