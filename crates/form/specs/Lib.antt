@@ -2,3 +2,6 @@ pub mod Digits
 pub mod Form
 pub mod Read
 pub mod Written
+pub mod DigitLaws
+pub mod Sound
+pub mod BothWays
