@@ -34,7 +34,10 @@ Below (l ∷ ls) (v ∷ vs) = (v < l) × Below ls vs
 abbrev pub Holds : List ℕ → List ℕ → Type 0
 Holds f vs = Below (limits f) vs
 
--- the bytes of a form's rendering are at most so many
+-- a form's rendering has at most so many bytes
+abbrev pub mostOf : ℕ → ℕ
+mostOf c = cond (isCount c) 10 (cond (isBits c) 16 1)
+
 unfoldable pub most : List ℕ → ℕ
 most [] = 0
-most (c ∷ f) = cond (isCount c) 10 (cond (isBits c) 16 1) + most f
+most (c ∷ f) = mostOf c + most f
