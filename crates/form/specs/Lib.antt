@@ -3,3 +3,6 @@ pub mod Form
 pub mod Read
 pub mod Says
 pub mod Written
+pub mod DigitLaws
+pub mod Sound
+pub mod BothWays
