@@ -12,9 +12,9 @@ use lib.Ieee.Fits.{and-l, and-r}
 use lib.ListN.{length, length-append, getD}
 use Rattle.form.specs.Digits.{decimal, hex, digits}
 use Rattle.form.specs.Form.{first, after, isCount, isBits, isHole, piece, left, render, holes}
-use Rattle.form.specs.Read.{isDigit, Field, found, departs, readHex, readCount, readField, Reading, done, departsAt, kept, valueOf, lineAfter, readNext, read}
+use Rattle.form.specs.Read.{isDigit, Field, found, departs, readHex, readCount, readByte, readField, Reading, done, departsAt, kept, valueOf, lineAfter, readNext, read}
 use Rattle.form.specs.Sound.{endsCount, sound, limitOf, limits, Below, Holds, mostOf, most}
-use Rattle.form.specs.DigitLaws.{has-first, not-found, hex-read, read-hex, digits-many, decimal-most, count-read, read-count}
+use Rattle.form.specs.DigitLaws.{not-found, hex-read, read-hex, digits-many, decimal-most, count-read, read-count}
 
 -- ---- the three kinds of byte in a form
 
@@ -39,22 +39,24 @@ pub record Read (c : ℕ) (s : List ℕ) (v : ℕ) (t us : List ℕ) : Type 0 wh
   pub rest : left c (valueOf c v ++ us) ≡ us
   pub fits : (ls : List ℕ) → Below ls us → Below (limitOf c ++ ls) (valueOf c v ++ us)
 
-field-read : {c : ℕ} → Kind c → (s : List ℕ) (v : ℕ) (t us : List ℕ) → 0 < c → readField c s ≡ found v t → Read c s v t us
-unfolding readField
-field-read count s v t us p e = let r = read-count s v t e in record { text = r .0; rest = refl; fits = λ ls b. (r .1, b) }
-field-read bits s v t us p e = let r = read-hex 16 0 s v t e in record { text = r .0; rest = refl; fits = λ ls b. (omega (arith, r .1), b) }
-field-read (itself {c = c} p q) s v t us h e =
-    let e' = rw (p, q) at e in
-    cases (eqb (first s) c)
+byte-read : (c : ℕ) (s : List ℕ) (v : ℕ) (t : List ℕ) → readByte c s ≡ found v t → s ≡ c ∷ t
+unfolding readByte
+byte-read c [] v t e = absurd (not-found v t e)
+byte-read c (d ∷ s) v t e =
+    cases (eqb d c)
     (λ b.
-    let z = eqb-true (first s) c b in
-    let r : after s ≡ t = cc (rw b at e') in
-    record { text = has-first s (rw z h) ∙ rw (p, q, z, r); rest = rw (p, q); fits = λ ls b. rw (p, q) b })
-    (λ b. absurd (not-found v t (rw b at e')))
+    let r : s ≡ t = cc (rw b at e) in
+    rw (eqb-true d c b, r))
+    (λ b. absurd (not-found v t (rw b at e)))
+
+field-read : {c : ℕ} → Kind c → (s : List ℕ) (v : ℕ) (t us : List ℕ) → readField c s ≡ found v t → Read c s v t us
+unfolding readField
+field-read count s v t us e = let r = read-count s v t e in record { text = r .0; rest = refl; fits = λ ls b. (r .1, b) }
+field-read bits s v t us e = let r = read-hex 16 0 s v t e in record { text = r .0; rest = refl; fits = λ ls b. (omega (arith, r .1), b) }
+field-read (itself {c = c} p q) s v t us e = record { text = byte-read c s v t (rw (p, q) at e) ∙ rw (p, q); rest = rw (p, q); fits = λ ls b. rw (p, q) b }
 
 -- what a sound form says of its first byte and of the rest
 pub record Sound (c : ℕ) (f : List ℕ) : Type 0 where
-  pub some : 0 < c
   pub ends : T (not (isCount c) || endsCount (first f))
   pub rest : T (sound f)
 
@@ -62,8 +64,7 @@ pub sound-parts : (c : ℕ) (f : List ℕ) → T (sound (c ∷ f)) → Sound c f
 unfolding sound
 sound-parts c f h =
     let e = not (isCount c) || endsCount (first f) in
-    let l = and-l (ltb 0 c && e) (sound f) h in
-    record { some = ltb→lt 0 c (and-l (ltb 0 c) e l); ends = and-r (ltb 0 c) e l; rest = and-r (ltb 0 c && e) (sound f) h }
+    record { ends = and-l e (sound f) h; rest = and-r e (sound f) h }
 
 -- a form is read by its first byte, and then by the rest
 pub record Step (c : ℕ) (f : List ℕ) (line : ℕ) (s vs t : List ℕ) : Type 0 where
@@ -94,7 +95,7 @@ rendered-read (c ∷ f) s vs t line h e =
     let p = sound-parts c f h in
     let x = step c f line s vs t e in
     let r = rendered-read f (x .s') (x .us) t (lineAfter c line) (p .rest) (x .rest) in
-    put (x .v) (x .s') (x .us) (x .values) (field-read (kind c) s (x .v) (x .s') (x .us) (p .some) (x .here)) (r .0) (r .1)
+    put (x .v) (x .s') (x .us) (x .values) (field-read (kind c) s (x .v) (x .s') (x .us) (x .here)) (r .0) (r .1)
   where
     put : (v : ℕ) (s' us : List ℕ) → valueOf c v ++ us ≡ vs → Read c s v s' us → s' ≡ render f us ++ t → Holds f us → (s ≡ render (c ∷ f) vs ++ t) × Holds (c ∷ f) vs
     put v s' us e r q b = rw (← e, r .rest) (r .text ∙ ap (λ x. piece c (valueOf c v ++ us) ++ x) q ∙ sym (append-assoc (piece c (valueOf c v ++ us)) (render f us) t), r .fits (limits f) b)
@@ -108,7 +109,7 @@ pub record Rendered (c : ℕ) (vs t ls : List ℕ) : Type 0 where
   pub rest : Below ls (left c vs)
 
 field-rendered : {c : ℕ} → Kind c → (vs t ls : List ℕ) → Below (limitOf c ++ ls) vs → (isCount c ≡ true → isDigit (first t) ≡ false) → Rendered c vs t ls
-unfolding readField
+unfolding readField readByte
 field-rendered count [] t ls b q = absurd b
 field-rendered count (v ∷ vs) t ls b q = record { v = v; here = count-read v t (b .0) (q refl); values = refl; rest = b .1 }
 field-rendered bits [] t ls b q = absurd b

@@ -10,10 +10,10 @@ use Rattle.form.specs.Read.{isDigit}
 abbrev pub endsCount : ℕ → Bool
 endsCount c = ltb 0 c && not (isDigit c) && not (isHole c)
 
--- No byte is 0, and the byte after each `#` ends its count. (`first []` is 0, so no form ends in `#`.)
+-- The byte after each `#` ends its count. (`first []` is 0, so no form ends in `#`.)
 unfoldable pub sound : List ℕ → Bool
 sound [] = true
-sound (c ∷ f) = ltb 0 c && (not (isCount c) || endsCount (first f)) && sound f
+sound (c ∷ f) = (not (isCount c) || endsCount (first f)) && sound f
 
 -- what each value must be below, in the holes' order: a count 2^32, the bits of an f64 2^64
 abbrev pub limitOf : ℕ → List ℕ
