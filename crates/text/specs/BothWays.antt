@@ -1,0 +1,208 @@
+-- Reading a request and rendering it are inverse: each request of at most 8,192 bytes has one text.
+use mathlib.Core.Path.{_≡_, refl, sym, ap, _∙_}
+use mathlib.Core.Bool.{Bool, true, false, cond, _&&_, and-eq-true-iff, false≢true}
+use mathlib.Core.List.{List, [], _∷_, _++_, append-assoc, append-nil}
+use Prim.Native.Nat.{ℕ, zero, suc, _+_, _-_, _*_, _^_, _≤_, _<_, zero-le, suc-le-suc}
+use native.Mathlib.Nat.{add-zero, zero-add, add-sub-cancel}
+use native.Mathlib.Omega.{arith}
+use borrow.Author.Tests.{ltb-true, ltb-false, eqb-true, eq-eqb, le-ltb}
+use borrow.Table.Steps.{cases}
+use lib.Dec.{T, ltb, eqb}
+use lib.ListN.{length, length-append}
+use Rattle.form.specs.Form.{ascii, first, after, render}
+use Rattle.form.specs.Read.{Reading, done, departsAt, readField, read}
+use Rattle.form.specs.Sound.{sound, limits, Below, Holds, most}
+use Rattle.form.specs.BothWays.{rendered-read, read-rendered, render-most}
+use Rattle.text.specs.Request.{head, litter, rows, Asked, asked, form, renderLitters, renderRequest, isEmpty, withLitter, readLast, readRow, readRows, readAfter, readRequest}
+
+-- ---- the three forms
+
+head-sound : T (sound head)
+unfolding sound head
+head-sound = tt
+
+litter-sound : T (sound litter)
+unfolding sound litter
+litter-sound = tt
+
+rows-sound : T (sound rows)
+unfolding sound rows
+rows-sound = tt
+
+-- What a request may ask: sixteen values that fit the head, and three for each litter.
+abbrev pub EachHolds : List (List ℕ) → Type 0
+EachHolds [] = Unit
+EachHolds (l ∷ ls) = Holds litter l × EachHolds ls
+
+pub record Asks (vs : List ℕ) (ls : List (List ℕ)) : Type 0 where
+  pub heads : Holds head vs
+  pub litters : EachHolds ls
+
+-- ---- the lines after the head
+
+-- the last line is no litter's: its first byte is another
+no-litter : (line : ℕ) (us : List ℕ) → read litter line (render rows us) ≡ departsAt line
+unfolding read readField render litter rows
+no-litter line us = refl
+
+last-holds : (n start : ℕ) → n < 2 ^ 32 → start < 2 ^ 32 → Holds rows (n ∷ start ∷ [])
+unfolding limits rows
+last-holds n start h g = (h, (g, tt))
+
+rows-read-back :
+    (k : ℕ) (vs : List ℕ) (start n : ℕ) (ls : List (List ℕ)) → EachHolds ls → length ls < k → n + length ls < 2 ^ 32 → start < 2 ^ 32 →
+    readRows k vs start n (renderLitters ls ++ render rows ((n + length ls) ∷ start ∷ [])) ≡ asked vs ls
+unfolding readRows renderLitters
+rows-read-back zero vs start n ls a h g b = absurd (omega arith)
+rows-read-back (suc k) vs start n [] a h g b =
+    let us = n ∷ start ∷ [] in
+    let r = read-rendered rows us [] (8 + n) rows-sound (last-holds n start (omega arith) b) in
+    let e : read rows (8 + n) (render rows us) ≡ done us [] = rw (append-nil (render rows us)) at r in
+    rw (add-zero n, no-litter (8 + n) us, e, eq-eqb n n refl, eq-eqb start start refl)
+rows-read-back (suc k) vs start n (l ∷ ls) a h g b =
+    let m : n + suc (length ls) ≡ n + 1 + length ls = omega arith in
+    let rest = renderLitters ls ++ render rows ((n + 1 + length ls) ∷ start ∷ []) in
+    rw
+    (m, append-assoc (render litter l) (renderLitters ls) (render rows ((n + 1 + length ls) ∷ start ∷ [])), read-rendered litter l rest (8 + n) litter-sound (a .0), rows-read-back k vs start (n + 1) ls (a .1) (omega arith) (omega arith) b)
+
+-- no line is empty
+litter-some : (l : List ℕ) → 1 ≤ length (render litter l)
+unfolding render litter
+litter-some l = suc-le-suc zero-le
+
+rows-some : (us : List ℕ) → 1 ≤ length (render rows us)
+unfolding render rows
+rows-some us = suc-le-suc zero-le
+
+litters-some : (ls : List (List ℕ)) → length ls ≤ length (renderLitters ls)
+unfolding renderLitters
+litters-some [] = zero-le
+litters-some (l ∷ ls) = rw (length-append (render litter l) (renderLitters ls)) (omega (arith, litter-some l, litters-some ls))
+
+-- the text in its three parts, and its length
+parts-long : (a b c : List ℕ) → length (a ++ (b ++ c)) ≡ length a + (length b + length c)
+parts-long a b c = simp length-append
+
+-- What is rendered is read back, if it is no longer than a text may be.
+pub request-read-back : (vs : List ℕ) (ls : List (List ℕ)) → Asks vs ls → length (renderRequest vs ls) ≤ 8192 → readRequest (renderRequest vs ls) ≡ asked vs ls
+unfolding renderRequest readRequest
+request-read-back vs ls a h =
+    let start = length (render head vs) in
+    let us = length ls ∷ start ∷ [] in
+    let rest = renderLitters ls ++ render rows us in
+    let n = parts-long (render head vs) (renderLitters ls) (render rows us) in
+    let s = litters-some ls in
+    let s' = rows-some us in
+    let z : length (render head vs ++ rest) - length rest ≡ start = rw (length-append (render head vs) rest) (add-sub-cancel start (length rest)) in
+    let r = rows-read-back 8192 vs start 0 ls (a .litters) (omega arith) (omega arith) (omega arith) in
+    rw (le-ltb 8192 (length (render head vs ++ rest)) h, read-rendered head vs rest 1 head-sound (a .heads), z) (rw (zero-add (length ls)) at r)
+
+-- ---- how long a request is
+
+most-are : (most head ≡ 310) × (most litter ≡ 40) × (most rows ≡ 30)
+unfolding most head litter rows
+most-are = (refl, refl, refl)
+
+litters-most : (ls : List (List ℕ)) → EachHolds ls → length (renderLitters ls) ≤ 40 * length ls
+unfolding renderLitters
+litters-most [] a = zero-le
+litters-most (l ∷ ls) a = rw (length-append (render litter l) (renderLitters ls)) (omega (arith, render-most litter l (a .0), most-are, litters-most ls (a .1)))
+
+-- a request of at most 128 litters is no longer than a text may be
+pub short-enough : (vs : List ℕ) (ls : List (List ℕ)) → Asks vs ls → length ls ≤ 128 → length (renderRequest vs ls) ≤ 8192
+unfolding renderRequest
+short-enough vs ls a h =
+    let start = length (render head vs) in
+    let us = length ls ∷ start ∷ [] in
+    let m = most-are in
+    let p = render-most head vs (a .heads) in
+    let q = litters-most ls (a .litters) in
+    let r = render-most rows us (last-holds (length ls) start (omega arith) (omega arith)) in
+    rw (parts-long (render head vs) (renderLitters ls) (render rows us)) (omega arith)
+
+-- ---- what is read is a rendering
+
+-- a litter's line and those after it; or the last line
+not-asked : (k : ℕ) (vs : List ℕ) (ls : List (List ℕ)) → form k ≡ asked vs ls → ⊥
+not-asked k vs ls e = let z : _≡_ {A = ℕ} 0 1 = cc in omega arith
+
+pub record Rows (vs : List ℕ) (start n : ℕ) (s us : List ℕ) (ls : List (List ℕ)) : Type 0 where
+  pub same : vs ≡ us
+  pub each : EachHolds ls
+  pub text : s ≡ renderLitters ls ++ render rows ((n + length ls) ∷ start ∷ [])
+
+last-values : (ws : List ℕ) (n start : ℕ) → Holds rows ws → first ws ≡ n → first (after ws) ≡ start → ws ≡ n ∷ start ∷ []
+unfolding limits rows
+last-values [] n start b p q = absurd b
+last-values (w ∷ []) n start b p q = absurd (b .1)
+last-values (w ∷ u ∷ []) n start b p q = rw (p, q)
+last-values (w ∷ u ∷ x ∷ ws) n start b p q = absurd (b .1 .1)
+
+is-empty : (t : List ℕ) → isEmpty t ≡ true → t ≡ []
+is-empty [] h = refl
+is-empty (c ∷ t) h = absurd (false≢true h)
+
+last-rendered : (vs : List ℕ) (line start n : ℕ) (s us : List ℕ) (ls : List (List ℕ)) (r : Reading) → read rows line s ≡ r → readLast vs line start n r ≡ asked us ls → Rows vs start n s us ls
+unfolding renderLitters
+last-rendered vs line start n s us ls (departsAt k) e f = absurd (not-asked line us ls f)
+last-rendered vs line start n s us ls (done ws t) e f =
+    cases (eqb (first ws) n && eqb (first (after ws)) start)
+    (λ b. cases (isEmpty t)
+    (λ o.
+    let r = rendered-read rows s ws t line rows-sound e in
+    let q = and-eq-true-iff (eqb (first ws) n) (eqb (first (after ws)) start) .0 b in
+    let w = last-values ws n start (r .1) (eqb-true (first ws) n (q .0)) (eqb-true (first (after ws)) start (q .1)) in
+    let g = rw (b, o) at f in
+    let z : [] ≡ ls = cc in
+    let x : s ≡ render rows (n ∷ start ∷ []) = r .0 ∙ rw (w, is-empty t o) (append-nil (render rows (n ∷ start ∷ []))) in
+    record { same = cc; each = rw (← z) tt; text = rw (← z, add-zero n) x })
+    (λ o. absurd (not-asked (line + 1) us ls (rw (b, o) at f))))
+    (λ b. absurd (not-asked line us ls (rw b at f)))
+
+litter-rendered :
+    (vs : List ℕ) (start n : ℕ) (s us : List ℕ) (ls : List (List ℕ)) (l t : List ℕ) → read litter (8 + n) s ≡ done l t → Rows vs start (n + 1) t us ls → Rows vs start n s us (l ∷ ls)
+unfolding renderLitters
+litter-rendered vs start n s us ls l t e r =
+    let q = rendered-read litter s l t (8 + n) litter-sound e in
+    let m : n + suc (length ls) ≡ n + 1 + length ls = omega arith in
+    let last = render rows ((n + 1 + length ls) ∷ start ∷ []) in
+    let x = q .0 ∙ ap (λ x. render litter l ++ x) (r .text) ∙ sym (append-assoc (render litter l) (renderLitters ls) last) in
+    record { same = r .same; each = (q .1, r .each); text = rw m x }
+
+-- what k lines more are, wherever they start
+abbrev RowsBy : ℕ → List ℕ → ℕ → ℕ → Type 0
+RowsBy k vs start n = (s us : List ℕ) (ls : List (List ℕ)) → readRows k vs start n s ≡ asked us ls → Rows vs start n s us ls
+
+rows-rendered : (k : ℕ) (vs : List ℕ) (start n : ℕ) → RowsBy k vs start n
+unfolding readRows
+rows-rendered zero vs start n s us ls e = absurd (not-asked (8 + n) us ls e)
+rows-rendered (suc k) vs start n s us ls e = by-line (rows-rendered k vs start (n + 1)) (read litter (8 + n) s) refl e
+  where
+    by-rest : RowsBy k vs start (n + 1) → (l t : List ℕ) (a : Asked) → read litter (8 + n) s ≡ done l t → readRows k vs start (n + 1) t ≡ a → withLitter l a ≡ asked us ls → Rows vs start n s us ls
+    by-rest ih l t (form x) e₁ e₂ e₃ = absurd (not-asked x us ls e₃)
+    by-rest ih l t (asked us' ls') e₁ e₂ e₃ = let z : l ∷ ls' ≡ ls = cc in rw (← z) (litter-rendered vs start n s us ls' l t e₁ (ih t us ls' (e₂ ∙ cc)))
+
+    by-line : RowsBy k vs start (n + 1) → (r : Reading) → read litter (8 + n) s ≡ r → readRow vs (8 + n) start n s r (readRows k vs start (n + 1)) ≡ asked us ls → Rows vs start n s us ls
+    by-line ih (done l t) e₁ e₂ = by-rest ih l t (readRows k vs start (n + 1) t) e₁ refl e₂
+    by-line ih (departsAt x) e₁ e₂ = last-rendered vs (8 + n) start n s us ls (read rows (8 + n) s) refl e₂
+
+-- What is read is the rendering of what it asks.
+pub read-is-rendering : (text vs : List ℕ) (ls : List (List ℕ)) → readRequest text ≡ asked vs ls → (text ≡ renderRequest vs ls) × Asks vs ls
+unfolding readRequest renderRequest
+read-is-rendering text vs ls e =
+    cases (ltb 8192 (length text))
+    (λ b. absurd (not-asked 0 vs ls (rw b at e)))
+    (λ b. by-head (read head 1 text) refl (rw b at e))
+  where
+    by-head : (r : Reading) → read head 1 text ≡ r → readAfter text r ≡ asked vs ls → (text ≡ renderRequest vs ls) × Asks vs ls
+    by-head (departsAt k) e₁ e₂ = absurd (not-asked k vs ls e₂)
+    by-head (done us s) e₁ e₂ =
+        let q = rendered-read head text us s 1 head-sound e₁ in
+        let r = rows-rendered 8192 us (length text - length s) 0 s vs ls e₂ in
+        let h = render head us in
+        let z : length text - length s ≡ length h = ap (λ x. length x - length s) (q .0) ∙ rw (length-append h s) (add-sub-cancel (length h) (length s)) in
+        rw (← (r .same)) (q .0 ∙ ap (λ x. h ++ x) (r .text ∙ rw (z, zero-add (length ls))), record { heads = q .1; litters = r .each })
+
+-- two texts that ask the same are the same
+pub one-text : (text text' vs : List ℕ) (ls : List (List ℕ)) → readRequest text ≡ asked vs ls → readRequest text' ≡ asked vs ls → text ≡ text'
+one-text text text' vs ls e e' = read-is-rendering text vs ls e .0 ∙ sym (read-is-rendering text' vs ls e' .0)
