@@ -10,7 +10,7 @@ use borrow.Table.Steps.{cases}
 use lib.Dec.{T, ltb, eqb}
 use lib.ListN.{length, length-append}
 use Rattle.form.specs.Form.{ascii, first, after, render}
-use Rattle.form.specs.Read.{Reading, done, departsAt, readField, read}
+use Rattle.form.specs.Read.{Reading, done, departsAt, readByte, readField, read}
 use Rattle.form.specs.Sound.{sound, limits, Below, Holds, most}
 use Rattle.form.specs.BothWays.{rendered-read, read-rendered, render-most}
 use Rattle.text.specs.Request.{head, litter, rows, Asked, asked, form, renderLitters, renderRequest, isEmpty, withLitter, readLast, readRow, readRows, readAfter, readRequest}
@@ -42,7 +42,7 @@ pub record Asks (vs : List ℕ) (ls : List (List ℕ)) : Type 0 where
 
 -- the last line is no litter's: its first byte is another
 no-litter : (line : ℕ) (us : List ℕ) → read litter line (render rows us) ≡ departsAt line
-unfolding read readField render litter rows
+unfolding read readField readByte render litter rows
 no-litter line us = refl
 
 last-holds : (n start : ℕ) → n < 2 ^ 32 → start < 2 ^ 32 → Holds rows (n ∷ start ∷ [])

@@ -1,3 +1,4 @@
 pub mod Request
+pub mod Rows
 pub mod Answer
 pub mod BothWays
