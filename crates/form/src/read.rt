@@ -54,7 +54,7 @@ fn line_after(c: u8, line: u64) -> u64
 // `first` is the number of the line at `start`.
 pub fn read(text: &[u8], start: usize, form: &[u8], first: u64) -> Values
     requires { ⌜ (start ≤ length (now text)) × (holes (now form) ≤ 16) × (first + length (now form) < 2 ^ 63) ⌝ }
-    ensures { λ r. ⌜ (Read·read (now (form .entry)) first (drop start (now (text .entry))) ≡ saidOf (now (text .entry)) (holes (now (form .entry))) r) × (r .at ≤ length (now (text .entry))) ⌝ }
+    ensures { λ r. ⌜ (Read·read (now (form .entry)) first (drop start (now (text .entry))) ≡ saidOf (now (text .entry)) (holes (now (form .entry))) r) × (r .at ≤ length (now (text .entry))) × (length (r .values) ≡ 16) ⌝ }
 {
     let mut at = start;
     let mut line = first;

@@ -1,13 +1,13 @@
 -- What the last line and each litter line decide.
-use mathlib.Core.Path.{_≡_, refl, sym, _∙_, ap}
+use mathlib.Core.Path.{_≡_, refl, sym, subst, _∙_, ap}
 use mathlib.Core.Bool.{Bool, true, false, cond, not}
 use mathlib.Core.List.{List, [], _∷_, _++_}
 use Prim.Native.Nat.{ℕ, zero, suc, _+_, _-_, _*_, _^_, _≤_, _<_}
 use native.Mathlib.Omega.{arith}
 use native.Mathlib.Nat.{add-zero}
 use lib.Dec.{T, eqb, ltb, lit<}
-use lib.ListN.{length, getD, set, take, drop, drop-of-length-le}
-use lib.Seq.{drop-cons, getD-take}
+use lib.ListN.{length, getD, set, take, drop, drop-of-length-le, length-drop}
+use lib.Seq.{drop-cons, getD-take, take-all}
 use borrow.Author.Tests.{eq-eqb, ne-eqb, lt-ltb, le-ltb, not-true, not-false}
 use Rattle.num.specs.Left.{left-one, left-none}
 use Rattle.form.specs.Form.{first, after, holes}
@@ -16,8 +16,10 @@ use Rattle.form.specs.declared.read.Values.{Values}
 use Rattle.form.specs.Says.{saidOf}
 use Rattle.form.specs.Sound.{sound, limits}
 use Rattle.form.specs.BothWays.{read-below}
-use Rattle.text.specs.Request.{Asked, asked, form, isEmpty, litter, rows, withLitter, readLast, readRows}
-use Rattle.text.specs.Rows.{Kept, kept, departs, putLitter, putLitters, keptOf}
+use Rattle.text.specs.declared.read.Lines.{Lines}
+use Rattle.text.specs.declared.read.Lines.the-variants.{Litters, Departs}
+use Rattle.text.specs.Request.{Asked, asked, form, isEmpty, head, litter, rows, withLitter, readLast, readRows, readRequest}
+use Rattle.text.specs.Rows.{Kept, kept, departs, putLitter, putLitters, keptOf, rowsSay}
 
 first-taken : (vs : List ℕ) → first (take 2 vs) ≡ getD vs 0 0
 first-taken [] = refl
@@ -99,3 +101,29 @@ module _ (text : List ℕ) (at n : ℕ) (r : Values) (said : read litter (8 + n)
 pub rows-end : (vs b s : List ℕ) (start n : ℕ) → 8192 ≤ n → keptOf b n (readRows (8192 - n) vs start n s) ≡ departs (8 + n)
 unfolding readRows
 rows-end vs b s start n h = rw (left-none 8192 n h)
+
+-- ---- the head
+
+module _ (b text : List ℕ) where
+  pub too-long : 8192 < length text → departs 0 ≡ keptOf b 0 (readRequest text)
+  unfolding readRequest
+  too-long h = rw (lt-ltb 8192 (length text) h)
+
+  module _ (r : Values) (h : length text ≤ 8192) (said : read head 1 text ≡ saidOf text 16 r) where
+    pub head-departs : not (r .fits) ≡ true → departs (r .line) ≡ keptOf b 0 (readRequest text)
+    unfolding readRequest
+    head-departs f = rw (le-ltb 8192 (length text) h, said, not-true (r .fits) f)
+
+    pub head-read : not (r .fits) ≡ false → r .at ≤ length text → length (r .values) ≡ 16 → readRows 8192 (r .values) (r .at) 0 (drop (r .at) text) ≡ readRequest text
+    unfolding readRequest
+    head-read f a l =
+        let e : length text - (length text - r .at) ≡ r .at = omega arith in
+        rw (le-ltb 8192 (length text) h, said, not-false (r .fits) f, take-all 16 (r .values) (omega arith), length-drop (r .at) text, e)
+
+-- what the lines after the head say, by the case that the code has in hand
+module _ (vs b : List ℕ) (r : Lines) (w : Kept) (s : rowsSay vs r b ≡ w) where
+  pub say-litters : (n : ℕ) → r ≡ Litters n → kept vs n b ≡ w
+  say-litters n e = subst (λ (x : Lines). rowsSay vs x b ≡ w) e s
+
+  pub say-departs : (line : ℕ) → r ≡ Departs line → departs line ≡ w
+  say-departs line e = subst (λ (x : Lines). rowsSay vs x b ≡ w) e s

@@ -30,7 +30,7 @@ departed c =
     let a = t .before .before .before .before .before .before .args in
     let h : l .k < length (a .form .now) = omega arith in
     let f : readField (getD (a .form .now) (l .k) 0) (drop (l .at) (a .text .now)) ≡ departs = says-departs (a .text .now) _ _ (c .enum-told .given .1) (t .token-at .ensures) in
-    (read-stops (a .form .now) (a .text .now) (take (l .n) (l .values)) (l .k) (l .line) (l .at) _ (l .inv .0) h f, search needs)
+    (read-stops (a .form .now) (a .text .now) (take (l .n) (l .values)) (l .k) (l .line) (l .at) _ (l .inv .0) h f, search needs, l .inv .4)
 
 again : tie.Need-loop-again Inv-loop μ-loop
 again c =
@@ -52,7 +52,7 @@ ended c =
     let b = c .before .before .before .before in
     let h : length (b .args .form .now) ≤ l .k = omega arith in
     let m : l .n ≡ holes (b .args .form .now) = none-left _ _ _ h (l .inv .2) in
-    (rw (← m) (read-ends (b .args .form .now) (b .args .text .now) (take (l .n) (l .values)) (l .k) (l .line) (l .at) _ (l .inv .0) h), l .inv .1)
+    (rw (← m) (read-ends (b .args .form .now) (b .args .text .now) (take (l .n) (l .values)) (l .k) (l .line) (l .at) _ (l .inv .0) h), l .inv .1, l .inv .4)
 
 pub read-spec : {M : Type 1} → statement M
 read-spec =
