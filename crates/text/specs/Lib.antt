@@ -1,3 +1,4 @@
 pub mod Request
 pub mod Answer
 pub mod BothWays
+pub mod Points
