@@ -29,7 +29,7 @@ kind c =
     (λ p. rw (eqb-true c 35 p) count)
     (λ p. cases (isBits c) (λ q. rw (eqb-true c 37 q) bits) (λ q. itself p q))
 
-not-done : (k : ℕ) (vs t : List ℕ) → departsAt k ≡ done vs t → ⊥
+pub not-done : (k : ℕ) (vs t : List ℕ) → departsAt k ≡ done vs t → ⊥
 not-done k vs t e = let z : _≡_ {A = ℕ} 0 1 = cc in omega arith
 
 -- ---- what is read at one byte of a form
@@ -39,7 +39,7 @@ pub record Read (c : ℕ) (s : List ℕ) (v : ℕ) (t us : List ℕ) : Type 0 wh
   pub rest : left c (valueOf c v ++ us) ≡ us
   pub fits : (ls : List ℕ) → Below ls us → Below (limitOf c ++ ls) (valueOf c v ++ us)
 
-field-read : {c : ℕ} → Kind c → (s : List ℕ) (v : ℕ) (t us : List ℕ) → 0 < c → readField c s ≡ found v t → Read c s v t us
+pub field-read : {c : ℕ} → Kind c → (s : List ℕ) (v : ℕ) (t us : List ℕ) → 0 < c → readField c s ≡ found v t → Read c s v t us
 unfolding readField
 field-read count s v t us p e = let r = read-count s v t e in record { text = r .0; rest = refl; fits = λ ls b. (r .1, b) }
 field-read bits s v t us p e = let r = read-hex 16 0 s v t e in record { text = r .0; rest = refl; fits = λ ls b. (omega (arith, r .1), b) }
@@ -107,7 +107,7 @@ pub record Rendered (c : ℕ) (vs t ls : List ℕ) : Type 0 where
   pub values : valueOf c v ++ left c vs ≡ vs
   pub rest : Below ls (left c vs)
 
-field-rendered : {c : ℕ} → Kind c → (vs t ls : List ℕ) → Below (limitOf c ++ ls) vs → (isCount c ≡ true → isDigit (first t) ≡ false) → Rendered c vs t ls
+pub field-rendered : {c : ℕ} → Kind c → (vs t ls : List ℕ) → Below (limitOf c ++ ls) vs → (isCount c ≡ true → isDigit (first t) ≡ false) → Rendered c vs t ls
 unfolding readField
 field-rendered count [] t ls b q = absurd b
 field-rendered count (v ∷ vs) t ls b q = record { v = v; here = count-read v t (b .0) (q refl); values = refl; rest = b .1 }

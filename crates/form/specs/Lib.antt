@@ -5,3 +5,4 @@ pub mod Written
 pub mod DigitLaws
 pub mod Sound
 pub mod BothWays
+pub mod Departure
