@@ -17,15 +17,15 @@ use Rattle.text.specs.Request.{head, litter, rows, Asked, asked, form, r
 
 -- ---- the three forms
 
-head-sound : T (sound head)
+pub head-sound : T (sound head)
 unfolding sound head
 head-sound = tt
 
-litter-sound : T (sound litter)
+pub litter-sound : T (sound litter)
 unfolding sound litter
 litter-sound = tt
 
-rows-sound : T (sound rows)
+pub rows-sound : T (sound rows)
 unfolding sound rows
 rows-sound = tt
 
@@ -45,7 +45,7 @@ no-litter : (line : ℕ) (us : List ℕ) → read litter line (render rows us) �
 unfolding read readField render litter rows
 no-litter line us = refl
 
-last-holds : (n start : ℕ) → n < 2 ^ 32 → start < 2 ^ 32 → Holds rows (n ∷ start ∷ [])
+pub last-holds : (n start : ℕ) → n < 2 ^ 32 → start < 2 ^ 32 → Holds rows (n ∷ start ∷ [])
 unfolding limits rows
 last-holds n start h g = (h, (g, tt))
 
@@ -66,7 +66,7 @@ rows-read-back (suc k) vs start n (l ∷ ls) a h g b =
     (m, append-assoc (render litter l) (renderLitters ls) (render rows ((n + 1 + length ls) ∷ start ∷ [])), read-rendered litter l rest (8 + n) litter-sound (a .0), rows-read-back k vs start (n + 1) ls (a .1) (omega arith) (omega arith) b)
 
 -- no line is empty
-litter-some : (l : List ℕ) → 1 ≤ length (render litter l)
+pub litter-some : (l : List ℕ) → 1 ≤ length (render litter l)
 unfolding render litter
 litter-some l = suc-le-suc zero-le
 
@@ -123,7 +123,7 @@ short-enough vs ls a h =
 -- ---- what is read is a rendering
 
 -- a litter's line and those after it; or the last line
-not-asked : (k : ℕ) (vs : List ℕ) (ls : List (List ℕ)) → form k ≡ asked vs ls → ⊥
+pub not-asked : (k : ℕ) (vs : List ℕ) (ls : List (List ℕ)) → form k ≡ asked vs ls → ⊥
 not-asked k vs ls e = let z : _≡_ {A = ℕ} 0 1 = cc in omega arith
 
 pub record Rows (vs : List ℕ) (start n : ℕ) (s us : List ℕ) (ls : List (List ℕ)) : Type 0 where
@@ -131,7 +131,7 @@ pub record Rows (vs : List ℕ) (start n : ℕ) (s us : List ℕ) (ls : List (Li
   pub each : EachHolds ls
   pub text : s ≡ renderLitters ls ++ render rows ((n + length ls) ∷ start ∷ [])
 
-last-values : (ws : List ℕ) (n start : ℕ) → Holds rows ws → first ws ≡ n → first (after ws) ≡ start → ws ≡ n ∷ start ∷ []
+pub last-values : (ws : List ℕ) (n start : ℕ) → Holds rows ws → first ws ≡ n → first (after ws) ≡ start → ws ≡ n ∷ start ∷ []
 unfolding limits rows
 last-values [] n start b p q = absurd b
 last-values (w ∷ []) n start b p q = absurd (b .1)
