@@ -1,19 +1,19 @@
--- Where a text departs from a form: as far as that place it is a rendering, and no value of the form's next byte stands there.
+-- Where a text departs from a form.
 use mathlib.Core.Path.{_≡_, refl, sym, ap, _∙_}
 use mathlib.Core.Logic.{_≢_}
-use mathlib.Core.Bool.{Bool, true, false, cond}
+use mathlib.Core.Bool.{true, false, cond}
 use mathlib.Core.List.{List, [], _∷_, _++_, append-assoc, append-nil}
 use Prim.Native.Nat.{ℕ, zero, suc, _+_, _/_, _%_, _^_, _<_}
 use native.Mathlib.Nat.{add-zero, add-assoc, zero-add}
 use native.Mathlib.Omega.{arith}
-use borrow.Author.Tests.{ltb-false, eqb-true, ne-eqb}
+use borrow.Author.Tests.{ne-eqb}
 use borrow.Table.Steps.{cases}
 use lib.Dec.{T, ltb, eqb}
 use Rattle.form.specs.Digits.{glyph, digits}
-use Rattle.form.specs.Form.{first, isCount, isBits, piece, left, render}
+use Rattle.form.specs.Form.{first, isCount, piece, render}
 use Rattle.form.specs.Read.{isDigit, Field, found, departs, readField, Reading, done, departsAt, kept, valueOf, lineAfter, readNext, read}
-use Rattle.form.specs.Sound.{sound, limits, Below, Holds}
-use Rattle.form.specs.BothWays.{Kind, count, bits, itself, kind, Read, field-read, field-rendered, Sound, sound-parts, not-done}
+use Rattle.form.specs.Sound.{sound, limits, Holds}
+use Rattle.form.specs.BothWays.{Kind, count, bits, itself, kind, ReadIs, field-read-is, field-read-back, Sound, sound-parts, not-done}
 use Rattle.form.specs.DigitLaws.{not-found}
 
 -- how many of a text's bytes are LF
@@ -24,7 +24,8 @@ unfoldable pub lineEnds : List ℕ → ℕ
 lineEnds [] = 0
 lineEnds (c ∷ s) = isLF c + lineEnds s
 
--- The text s, whose first line has the number `line`, departs from the form f at line k.
+-- The text s, whose first line has the number `line`, departs from the form f in line k: as far as a place in that line s is a rendering of the
+-- form's bytes `before`, and at that place no value of the form's next byte stands. (A count goes as far as there are digits.)
 pub record Departs (f : List ℕ) (line : ℕ) (s : List ℕ) (k : ℕ) : Type 0 where
   pub before : List ℕ
   pub next : ℕ
@@ -35,7 +36,6 @@ pub record Departs (f : List ℕ) (line : ℕ) (s : List ℕ) (k : ℕ) : Type 0
   pub there : List ℕ
   pub text : s ≡ render before values ++ there
   pub place : k ≡ line + lineEnds (render before values)
-  -- a count goes as far as there are digits
   pub wrong : (us t : List ℕ) → Holds (next ∷ []) us → (isCount next ≡ true → isDigit (first t) ≡ false) → there ≢ render (next ∷ []) us ++ t
 
 -- ---- lines
@@ -81,7 +81,7 @@ at-once c f s line e =
       there = s;
       text = refl;
       place = sym (add-zero line);
-      wrong = λ us t b n q. let r = field-rendered (kind c) us t [] b n in not-found (r .v) t (sym e ∙ rw (q, append-nil (piece c us)) (r .here));
+      wrong = λ us t b n q. let r = field-read-back (kind c) us t [] b n in not-found (r .v) t (sym e ∙ rw (q, append-nil (piece c us)) (r .here));
     }
 
 later : (c : ℕ) (f s : List ℕ) (line k v : ℕ) (s' : List ℕ) → 0 < c → readField c s ≡ found v s' → Departs f (lineAfter c line) s' k → Departs (c ∷ f) line s k
@@ -90,7 +90,7 @@ later c f s line k v s' p e d =
     let g = d .before in
     let us = d .values in
     let vs = valueOf c v ++ us in
-    let r : Read c s v s' us = field-read (kind c) s v s' us p e in
+    let r : ReadIs c s v s' us = field-read-is (kind c) s v s' us p e in
     let m : lineEnds (piece c vs ++ render g us) ≡ isLF c + lineEnds (render g us) = ends-append (piece c vs) (render g us) ∙ rw (piece-ends (kind c) vs) in
     record {
       before = c ∷ g;

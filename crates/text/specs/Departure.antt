@@ -1,26 +1,22 @@
 -- What the line of a form answer says of the text.
 use mathlib.Core.Path.{_≡_, refl, sym, ap, _∙_}
 use mathlib.Core.Logic.{_≢_}
-use mathlib.Core.Bool.{Bool, true, false, cond, _&&_, and-eq-true-iff, true≢false}
+use mathlib.Core.Bool.{false, _&&_, true≢false}
 use mathlib.Core.List.{List, [], _∷_, _++_, append-assoc}
-use Prim.Native.Nat.{ℕ, zero, suc, _+_, _-_, _^_, _≤_, _<_, zero-le, suc-le-suc}
+use Prim.Native.Nat.{ℕ, zero, suc, _+_, _-_, _^_, _≤_, _<_}
 use native.Mathlib.Nat.{add-zero, zero-add}
 use native.Mathlib.Omega.{arith}
-use borrow.Author.Tests.{ltb-true, ltb-false, eqb-true, eq-eqb}
+use borrow.Author.Tests.{ltb-true, ltb-false, eq-eqb}
 use borrow.Table.Steps.{cases}
 use lib.Dec.{T, ltb, eqb}
 use lib.ListN.{length, length-append}
 use Rattle.form.specs.Form.{first, after, render}
 use Rattle.form.specs.Read.{Reading, done, departsAt, read}
 use Rattle.form.specs.Sound.{sound, Holds}
-use Rattle.form.specs.BothWays.{not-done, rendered-read, read-rendered}
+use Rattle.form.specs.BothWays.{not-done, rendered-read, read-rendered, render-least}
 use Rattle.form.specs.Departure.{Departs, departure}
-use Rattle.text.specs.Request.{head, litter, rows, Asked, asked, form, renderLitters, renderRequest, isEmpty, withLitter, readLast, readRow, readRows, readAfter, readRequest}
-use Rattle.text.specs.BothWays.{head-sound, litter-sound, rows-sound, EachHolds, Asks, last-holds, last-values, litter-some, not-asked}
-
--- the last line of a request with n litters, the first at byte `start`
-abbrev pub lastLine : ℕ → ℕ → List ℕ
-lastLine n start = render rows (n ∷ start ∷ [])
+use Rattle.text.specs.Request.{head, litter, rows, Asked, asked, form, renderLitters, isEmpty, withLitter, readLast, readRow, readRows, readAfter, readRequest}
+use Rattle.text.specs.BothWays.{head-sound, litter-sound, rows-sound, EachHolds, Asks, lastLine, last-holds, last-right, forms-some, not-asked}
 
 -- What is wrong at the place t, before which n litters stand: neither a litter's line nor the last line is there, or something follows the last line.
 pub data Wrong (n start : ℕ) (t : List ℕ) (k : ℕ) : Type 0 where
@@ -36,13 +32,6 @@ pub data Departure (text : List ℕ) (k : ℕ) : Type 0 where
 
 -- ---- the lines after the head
 
-head-some : (vs : List ℕ) → 1 ≤ length (render head vs)
-unfolding render head
-head-some vs = suc-le-suc zero-le
-
-not-form : (k : ℕ) (vs : List ℕ) (ls : List (List ℕ)) → asked vs ls ≡ form k → ⊥
-not-form k vs ls e = not-asked k vs ls (sym e)
-
 not-there : (f s t us : List ℕ) (line k : ℕ) → T (sound f) → read f line s ≡ departsAt k → Holds f us → s ≢ render f us ++ t
 not-there f s t us line k h e b q = not-done k us t (sym e ∙ rw q (read-rendered f us t line h b))
 
@@ -56,18 +45,16 @@ last-departs vs start n t k (departsAt j) b o e f = no-line (cc) o (λ u. not-th
 last-departs vs start n t k (done ws u) b o e f =
     cases (eqb (first ws) n && eqb (first (after ws)) start)
     (λ x. cases (isEmpty u)
-      (λ y. absurd (not-form k vs [] (rw (x, y) at f)))
-      (λ y. let r = rendered-read rows t ws u (8 + n) rows-sound e in
-        let q = and-eq-true-iff (eqb (first ws) n) (eqb (first (after ws)) start) .0 x in
-        let w = last-values ws n start (r .1) (eqb-true (first ws) n (q .0)) (eqb-true (first (after ws)) start (q .1)) in
-        let g = rw (x, y) at f in
-        let z : 8 + n + 1 ≡ k = cc in
-        more (first u) (after u) (omega arith) (r .0 ∙ ap (λ x. render rows x ++ u) w ∙ ap (λ x. lastLine n start ++ x) (some-more u y))))
+    (λ y. absurd (not-asked k vs [] (sym (rw (x, y) at f))))
+    (λ y.
+    let g = rw (x, y) at f in
+    let z : 8 + n + 1 ≡ k = cc in
+    more (first u) (after u) (omega arith) (last-right (8 + n) start n t ws u e x ∙ ap (λ x. lastLine n start ++ x) (some-more u y))))
     (λ x.
-      no-line (let g = rw x at f in cc) o (λ u' q.
-        let e' : read rows (8 + n) t ≡ done (n ∷ start ∷ []) u' = rw q (read-rendered rows (n ∷ start ∷ []) u' (8 + n) rows-sound b) in
-        let w : ws ≡ n ∷ start ∷ [] = cc in
-        true≢false (sym (rw (w, eq-eqb n n refl, eq-eqb start start refl)) ∙ x)))
+    no-line (let g = rw x at f in cc) o (λ u' q.
+    let e' : read rows (8 + n) t ≡ done (n ∷ start ∷ []) u' = rw q (read-rendered rows (n ∷ start ∷ []) u' (8 + n) rows-sound b) in
+    let w : ws ≡ n ∷ start ∷ [] = cc in
+    true≢false (sym (rw (w, eq-eqb n n refl, eq-eqb start start refl)) ∙ x)))
 
 pub record RowsDepart (start n : ℕ) (s : List ℕ) (k : ℕ) : Type 0 where
   pub litters : List (List ℕ)
@@ -100,13 +87,14 @@ rows-depart (suc lines) vs start n k b s h g e = by-line (rows-depart lines vs s
   where
     by-rest : (l : List ℕ) (a : Asked) → withLitter l a ≡ form k → a ≡ form k
     by-rest l (form x) e = e
-    by-rest l (asked us ls) e = absurd (not-form k us (l ∷ ls) e)
+    by-rest l (asked us ls) e = absurd (not-asked k us (l ∷ ls) (sym e))
 
     by-line : RowsDepartBy lines vs start (n + 1) k → (r : Reading) → read litter (8 + n) s ≡ r → readRow vs (8 + n) start n s r (readRows lines vs start (n + 1)) ≡ form k → RowsDepart start n s k
     by-line ih (done l t) e₁ e₂ =
         let q = rendered-read litter s l t (8 + n) litter-sound e₁ in
         let m : length s ≡ length (render litter l) + length t = ap length (q .0) ∙ length-append (render litter l) t in
-        let p = litter-some l in
+        let o = forms-some in
+        let p = render-least litter l in
         litter-before start n s k l t (q .0) (q .1) (ih t (omega arith) (omega arith) (by-rest l (readRows lines vs start (n + 1) t) e₂))
     by-line ih (departsAt j) e₁ e₂ =
         let w = last-departs vs start n s k (read rows (8 + n) s) (last-holds n start (omega arith) b) (λ l u. not-there litter s u l (8 + n) j litter-sound e₁) refl e₂ in
@@ -129,6 +117,7 @@ departs-there text k e =
     by-head h (done vs s) e₁ e₂ =
         let q = rendered-read head text vs s 1 head-sound e₁ in
         let m : length text ≡ length (render head vs) + length s = ap length (q .0) ∙ length-append (render head vs) s in
-        let p = head-some vs in
+        let o = forms-some in
+        let p = render-least head vs in
         let z : length text - length s ≡ length (render head vs) = omega arith in
         head-before text vs s k h (q .0) (q .1) (rows-depart 8192 vs (length (render head vs)) 0 k (omega arith) s (omega arith) (omega arith) (rw z at e₂))

@@ -1,9 +1,8 @@
 -- Example A of document 01 and texts beside it, as antt computes them from the definitions.
 use mathlib.Core.Path.{_≡_, refl}
 use mathlib.Core.List.{List, [], _∷_, _++_}
-use Prim.Native.Nat.{ℕ, _+_}
+use Prim.Native.Nat.{ℕ}
 use Prim.Native.String.{String}
-use lib.ListN.{length}
 use Rattle.form.specs.Digits.{digits, placesFrom}
 use Rattle.form.specs.Form.{ascii, render}
 use Rattle.form.specs.Read.{readHex, readMore, readCount, readField, read}
