@@ -1,20 +1,20 @@
 -- Reading and rendering by a form are inverse: what is rendered is read back, and what is read is a rendering.
 use mathlib.Core.Path.{_≡_, refl, sym, ap, _∙_}
 use mathlib.Core.Bool.{Bool, true, false, cond, _&&_, _||_, not, true≢false}
-use mathlib.Core.List.{List, [], _∷_, _++_, append-assoc, append-nil}
-use Prim.Native.Nat.{ℕ, zero, suc, _+_, _*_, _/_, _^_, _≤_, _<_}
+use mathlib.Core.List.{List, [], _∷_, _++_, append-assoc}
+use Prim.Native.Nat.{ℕ, zero, suc, _/_, _^_, _≤_, _<_}
 use native.Mathlib.Nat.{div-eq-of-lt, add-le-add, le-of-eq, le-of-suc-le-suc, not-suc-le-zero}
 use native.Mathlib.Omega.{arith}
-use borrow.Author.Tests.{eqb-true, eqb-false, eq-eqb}
+use borrow.Author.Tests.{eqb-true, eq-eqb}
 use borrow.Table.Steps.{cases}
 use lib.Dec.{T, ltb, eqb, ltb→lt, lit≤}
 use lib.Ieee.Fits.{and-l, and-r}
 use lib.ListN.{length, length-append, getD}
-use Rattle.form.specs.Digits.{decimal, hex, digits}
+use Rattle.form.specs.Digits.{places, hex}
 use Rattle.form.specs.Form.{first, after, isCount, isBits, isHole, piece, left, render, holes}
-use Rattle.form.specs.Read.{isDigit, Field, found, departs, readHex, readCount, readByte, readField, Reading, done, departsAt, kept, valueOf, lineAfter, readNext, read}
+use Rattle.form.specs.Read.{isDigit, Field, found, departs, readHex, readByte, readField, Reading, done, departsAt, kept, valueOf, lineAfter, readNext, read}
 use Rattle.form.specs.Sound.{endsCount, sound, limitOf, limits, Below, Holds, mostOf, most}
-use Rattle.form.specs.DigitLaws.{not-found, hex-read, read-hex, digits-many, decimal-most, count-read, read-count}
+use Rattle.form.specs.DigitLaws.{not-found, hex-read-back, hex-read-is, digits-many, places-least, decimal-most, count-read-back, count-read-is}
 
 -- ---- the three kinds of byte in a form
 
@@ -29,31 +29,31 @@ kind c =
     (λ p. rw (eqb-true c 35 p) count)
     (λ p. cases (isBits c) (λ q. rw (eqb-true c 37 q) bits) (λ q. itself p q))
 
-not-done : (k : ℕ) (vs t : List ℕ) → departsAt k ≡ done vs t → ⊥
+pub not-done : (k : ℕ) (vs t : List ℕ) → departsAt k ≡ done vs t → ⊥
 not-done k vs t e = let z : _≡_ {A = ℕ} 0 1 = cc in omega arith
 
 -- ---- what is read at one byte of a form
 
-pub record Read (c : ℕ) (s : List ℕ) (v : ℕ) (t us : List ℕ) : Type 0 where
+pub record ReadIs (c : ℕ) (s : List ℕ) (v : ℕ) (t us : List ℕ) : Type 0 where
   pub text : s ≡ piece c (valueOf c v ++ us) ++ t
   pub rest : left c (valueOf c v ++ us) ≡ us
   pub fits : (ls : List ℕ) → Below ls us → Below (limitOf c ++ ls) (valueOf c v ++ us)
 
-byte-read : (c : ℕ) (s : List ℕ) (v : ℕ) (t : List ℕ) → readByte c s ≡ found v t → s ≡ c ∷ t
+byte-read-is : (c : ℕ) (s : List ℕ) (v : ℕ) (t : List ℕ) → readByte c s ≡ found v t → s ≡ c ∷ t
 unfolding readByte
-byte-read c [] v t e = absurd (not-found v t e)
-byte-read c (d ∷ s) v t e =
+byte-read-is c [] v t e = absurd (not-found v t e)
+byte-read-is c (d ∷ s) v t e =
     cases (eqb d c)
     (λ b.
     let r : s ≡ t = cc (rw b at e) in
     rw (eqb-true d c b, r))
     (λ b. absurd (not-found v t (rw b at e)))
 
-field-read : {c : ℕ} → Kind c → (s : List ℕ) (v : ℕ) (t us : List ℕ) → readField c s ≡ found v t → Read c s v t us
+pub field-read-is : {c : ℕ} → Kind c → (s : List ℕ) (v : ℕ) (t us : List ℕ) → readField c s ≡ found v t → ReadIs c s v t us
 unfolding readField
-field-read count s v t us e = let r = read-count s v t e in record { text = r .0; rest = refl; fits = λ ls b. (r .1, b) }
-field-read bits s v t us e = let r = read-hex 16 0 s v t e in record { text = r .0; rest = refl; fits = λ ls b. (omega (arith, r .1), b) }
-field-read (itself {c = c} p q) s v t us e = record { text = byte-read c s v t (rw (p, q) at e) ∙ rw (p, q); rest = rw (p, q); fits = λ ls b. rw (p, q) b }
+field-read-is count s v t us e = let r = count-read-is s v t e in record { text = r .0; rest = refl; fits = λ ls b. (r .1, b) }
+field-read-is bits s v t us e = let r = hex-read-is 16 0 s v t e in record { text = r .0; rest = refl; fits = λ ls b. (omega (arith, r .1), b) }
+field-read-is (itself {c = c} p q) s v t us e = record { text = byte-read-is c s v t (rw (p, q) at e) ∙ rw (p, q); rest = rw (p, q); fits = λ ls b. rw (p, q) b }
 
 -- what a sound form says of its first byte and of the rest
 pub record Sound (c : ℕ) (f : List ℕ) : Type 0 where
@@ -95,28 +95,28 @@ rendered-read (c ∷ f) s vs t line h e =
     let p = sound-parts c f h in
     let x = step c f line s vs t e in
     let r = rendered-read f (x .s') (x .us) t (lineAfter c line) (p .rest) (x .rest) in
-    put (x .v) (x .s') (x .us) (x .values) (field-read (kind c) s (x .v) (x .s') (x .us) (x .here)) (r .0) (r .1)
+    put (x .v) (x .s') (x .us) (x .values) (field-read-is (kind c) s (x .v) (x .s') (x .us) (x .here)) (r .0) (r .1)
   where
-    put : (v : ℕ) (s' us : List ℕ) → valueOf c v ++ us ≡ vs → Read c s v s' us → s' ≡ render f us ++ t → Holds f us → (s ≡ render (c ∷ f) vs ++ t) × Holds (c ∷ f) vs
+    put : (v : ℕ) (s' us : List ℕ) → valueOf c v ++ us ≡ vs → ReadIs c s v s' us → s' ≡ render f us ++ t → Holds f us → (s ≡ render (c ∷ f) vs ++ t) × Holds (c ∷ f) vs
     put v s' us e r q b = rw (← e, r .rest) (r .text ∙ ap (λ x. piece c (valueOf c v ++ us) ++ x) q ∙ sym (append-assoc (piece c (valueOf c v ++ us)) (render f us) t), r .fits (limits f) b)
 
 -- ---- what is rendered at one byte of a form
 
-pub record Rendered (c : ℕ) (vs t ls : List ℕ) : Type 0 where
+pub record ReadBack (c : ℕ) (vs t ls : List ℕ) : Type 0 where
   pub v : ℕ
   pub here : readField c (piece c vs ++ t) ≡ found v t
   pub values : valueOf c v ++ left c vs ≡ vs
   pub rest : Below ls (left c vs)
 
-field-rendered : {c : ℕ} → Kind c → (vs t ls : List ℕ) → Below (limitOf c ++ ls) vs → (isCount c ≡ true → isDigit (first t) ≡ false) → Rendered c vs t ls
+pub field-read-back : {c : ℕ} → Kind c → (vs t ls : List ℕ) → Below (limitOf c ++ ls) vs → (isCount c ≡ true → isDigit (first t) ≡ false) → ReadBack c vs t ls
 unfolding readField readByte
-field-rendered count [] t ls b q = absurd b
-field-rendered count (v ∷ vs) t ls b q = record { v = v; here = count-read v t (b .0) (q refl); values = refl; rest = b .1 }
-field-rendered bits [] t ls b q = absurd b
-field-rendered bits (v ∷ vs) t ls b q =
+field-read-back count [] t ls b q = absurd b
+field-read-back count (v ∷ vs) t ls b q = record { v = v; here = count-read-back v t (b .0) (q refl); values = refl; rest = b .1 }
+field-read-back bits [] t ls b q = absurd b
+field-read-back bits (v ∷ vs) t ls b q =
     let z : v / 16 ^ 16 ≡ 0 = div-eq-of-lt (b .0) in
-    record { v = v; here = ap (λ x. readHex 16 x (hex v ++ t)) (sym z) ∙ hex-read 16 v t; values = refl; rest = b .1 }
-field-rendered (itself {c = c} p q) vs t ls b n =
+    record { v = v; here = ap (λ x. readHex 16 x (hex v ++ t)) (sym z) ∙ hex-read-back 16 v t; values = refl; rest = b .1 }
+field-read-back (itself {c = c} p q) vs t ls b n =
     let e = eq-eqb c c refl in
     record { v = 0; here = rw (p, q, e); values = rw (p, q); rest = rw (p, q) (rw (p, q) at b) }
 
@@ -146,7 +146,7 @@ read-rendered [] [] t line h b = refl
 read-rendered [] (v ∷ vs) t line h b = absurd b
 read-rendered (c ∷ f) vs t line h b =
     let p = sound-parts c f h in
-    let r = field-rendered (kind c) vs (render f (left c vs) ++ t) (limits f) b (no-digit c f (left c vs) t (p .ends)) in
+    let r = field-read-back (kind c) vs (render f (left c vs) ++ t) (limits f) b (no-digit c f (left c vs) t (p .ends)) in
     let ih = read-rendered f (left c vs) t (lineAfter c line) (p .rest) (r .rest) in
     rw (append-assoc (piece c vs) (render f (left c vs)) t, r .here, ih, r .values)
 
@@ -201,3 +201,14 @@ render-most [] vs b = lit≤ tt
 render-most (c ∷ f) vs b =
     let p = piece-most (kind c) vs (limits f) b in
     rw (length-append (piece c vs) (render f (left c vs))) (add-le-add (p .0) (render-most f (left c vs) (p .1)))
+
+piece-least : {c : ℕ} → Kind c → (vs : List ℕ) → 1 ≤ length (piece c vs)
+piece-least count vs = rw (digits-many 10 (places (first vs)) (first vs)) (places-least 19 (first vs))
+piece-least bits vs = rw (digits-many 16 16 (first vs)) (lit≤ tt)
+piece-least (itself p q) vs = rw (p, q) (lit≤ tt)
+
+-- no shorter than the form
+pub render-least : (f vs : List ℕ) → length f ≤ length (render f vs)
+unfolding render
+render-least [] vs = lit≤ tt
+render-least (c ∷ f) vs = rw (length-append (piece c vs) (render f (left c vs))) (omega (arith, piece-least (kind c) vs, render-least f (left c vs)))

@@ -1,19 +1,19 @@
 -- A number's digits read back, both ways: sixteen hexadecimal ones by `readHex`, a count's by `readCount`.
-use mathlib.Core.Path.{_≡_, refl, sym, ap, ap₂, _∙_}
+use mathlib.Core.Path.{_≡_, refl, ap, _∙_}
 use mathlib.Core.Logic.{_≢_}
-use mathlib.Core.Bool.{Bool, true, false, cond, not, _&&_, _||_, and-eq-true-iff, false≢true}
+use mathlib.Core.Bool.{true, false, and-eq-true-iff, false≢true}
 use mathlib.Core.List.{List, [], _∷_, _++_}
 use Prim.Native.Nat.{ℕ, zero, suc, _+_, _-_, _*_, _/_, _%_, _^_, _≤_, _<_}
-use native.Mathlib.Nat.{add-zero, mod-eq-of-lt, mul-add-mod-self-left, mul-add-div, div-add-mod, div-eq-of-lt, pow-suc, pow-succ', div-div-eq-div-mul, div-one, le-div-iff-mul-le, one-le-pow, pow-le-pow-right, lt-of-not-le, div-le-self, pos-of-div-pos}
+use native.Mathlib.Nat.{add-zero, mod-eq-of-lt, mul-add-mod-self-left, mul-add-div, div-add-mod, div-eq-of-lt, pow-zero, pow-suc, pow-succ', div-div-eq-div-mul, div-one, le-div-iff-mul-le, one-le-pow, pow-le-pow-right, lt-of-not-le, div-le-self, pos-of-div-pos}
 use native.Mathlib.Numerals.{add-one}
 use native.Mathlib.Omega.{arith}
 use borrow.Author.Tests.{ltb-true, ltb-false, leb-true, leb-false, eqb-true, eqb-false, lt-ltb, le-ltb, le-leb, lt-leb, ne-eqb}
 use borrow.Table.Steps.{cases}
 use lib.Dec.{leb, ltb, eqb, lit≤}
 use lib.ListN.{length}
-use Rattle.form.specs.Digits.{glyph, digits, placesFrom, places, decimal, hex}
+use Rattle.form.specs.Digits.{glyph, digits, placesFrom, decimal}
 use Rattle.form.specs.Form.{first, after}
-use Rattle.form.specs.Read.{isDigit, isHex, hexValue, Field, found, departs, readHex, readMore, readCount}
+use Rattle.form.specs.Read.{isDigit, isHex, hexValue, found, departs, readHex, readMore, readCount}
 
 -- ---- one digit
 
@@ -72,12 +72,21 @@ one-more b k n = rw (pow-suc b k, div-div-eq-div-mul n (b ^ k) b)
 next-digit : (b k n : ℕ) → b * (n / b ^ suc k) + n / b ^ k % b ≡ n / b ^ k
 next-digit b k n = rw (one-more b k n) (div-add-mod (n / b ^ k) b)
 
+-- the same from the other end: n without its last digit
+drop-last : (b k n : ℕ) → n / b ^ suc k ≡ n / b / b ^ k
+drop-last b k n = rw (pow-succ' b k, div-div-eq-div-mul n b (b ^ k))
+
 digit-in-front :
     (b k n v d c : ℕ) (s t : List ℕ) → d < b → glyph d ≡ c → n / b ^ k ≡ b * v + d → s ≡ digits b k n ++ t → (c ∷ s ≡ digits b (suc k) n ++ t) × (n / b ^ suc k ≡ v)
 unfolding digits
 digit-in-front b k n v d c s t h g e q =
     let p : 0 < b = omega arith in
     (rw (e, mul-add-mod-self-left b v d, mod-eq-of-lt h, g) (ap (λ l. c ∷ l) q), rw (one-more b k n, e, mul-add-div p v d, div-eq-of-lt h, add-zero v))
+
+pub digit-behind : (b k n : ℕ) → digits b (suc k) n ≡ digits b k (n / b) ++ (glyph (n % b) ∷ [])
+unfolding digits
+digit-behind b zero n = rw (pow-zero b, div-one n)
+digit-behind b (suc k) n = rw (drop-last b k n) (ap (λ l. glyph (n / b / b ^ k % b) ∷ l) (digit-behind b k n))
 
 pub digits-many : (b k n : ℕ) → length (digits b k n) ≡ k
 unfolding digits
@@ -86,18 +95,18 @@ digits-many b (suc k) n = ap suc (digits-many b k n)
 
 -- ---- hexadecimal
 
-pub hex-read : (k n : ℕ) (t : List ℕ) → readHex k (n / 16 ^ k) (digits 16 k n ++ t) ≡ found n t
+pub hex-read-back : (k n : ℕ) (t : List ℕ) → readHex k (n / 16 ^ k) (digits 16 k n ++ t) ≡ found n t
 unfolding digits readHex
-hex-read zero n t = rw (div-one n)
-hex-read (suc k) n t = let g = glyph-hex (n / 16 ^ k % 16) (omega arith) in rw (g .0, g .1, next-digit 16 k n) (hex-read k n t)
+hex-read-back zero n t = rw (div-one n)
+hex-read-back (suc k) n t = let g = glyph-hex (n / 16 ^ k % 16) (omega arith) in rw (g .0, g .1, next-digit 16 k n) (hex-read-back k n t)
 
-pub read-hex : (k v : ℕ) (s : List ℕ) (n : ℕ) (t : List ℕ) → readHex k v s ≡ found n t → (s ≡ digits 16 k n ++ t) × (n / 16 ^ k ≡ v)
+pub hex-read-is : (k v : ℕ) (s : List ℕ) (n : ℕ) (t : List ℕ) → readHex k v s ≡ found n t → (s ≡ digits 16 k n ++ t) × (n / 16 ^ k ≡ v)
 unfolding digits readHex
-read-hex zero v s n t e = (cc, rw (div-one n) (cc))
-read-hex (suc k) v s n t e =
+hex-read-is zero v s n t e = (cc, rw (div-one n) (cc))
+hex-read-is (suc k) v s n t e =
     cases (isHex (first s))
     (λ b.
-    let r = read-hex k (16 * v + hexValue (first s)) (after s) n t (rw b at e) in
+    let r = hex-read-is k (16 * v + hexValue (first s)) (after s) n t (rw b at e) in
     let g = hex-glyph (first s) b in
     let m = digit-in-front 16 k n v (hexValue (first s)) (first s) (after s) t (g .1) (g .0) (r .1) (r .0) in
     (has-first s (hex-above (first s) b) ∙ m .0, m .1))
@@ -110,12 +119,11 @@ pub record Leads (n k : ℕ) : Type 0 where
   pub some : 0 < n / 10 ^ k
   pub one : n / 10 ^ k < 10
 
--- one digit more in front of the last
 leads-on : (n k : ℕ) → Leads (n / 10) k → Leads n (suc k)
-leads-on n k l = let e : n / 10 ^ suc k ≡ n / 10 / 10 ^ k = rw (pow-succ' 10 k, div-div-eq-div-mul n 10 (10 ^ k)) in record { some = rw e (l .some); one = rw e (l .one) }
+leads-on n k l = let e = drop-last 10 k n in record { some = rw e (l .some); one = rw e (l .one) }
 
 leads-off : (n k : ℕ) → Leads n (suc k) → Leads (n / 10) k
-leads-off n k l = let e : n / 10 / 10 ^ k ≡ n / 10 ^ suc k = rw (pow-succ' 10 k, div-div-eq-div-mul n 10 (10 ^ k)) in record { some = rw e (l .some); one = rw e (l .one) }
+leads-off n k l = let e = drop-last 10 k n in record { some = rw e at (l .some); one = rw e at (l .one) }
 
 -- fewer digits after the first than any power above n
 pub few : (n k m : ℕ) → Leads n k → n < 10 ^ m → k < m
@@ -142,6 +150,11 @@ places-are (suc f) n (suc k) l h =
     let g : 10 ≤ n = omega (arith, pos-of-div-pos {n = n / 10} (10 ^ k) (r .some)) in
     rw (le-ltb n 10 g, places-are f (n / 10) k r (omega arith), add-one (suc k))
 
+pub places-least : (f n : ℕ) → 1 ≤ placesFrom f n
+unfolding placesFrom
+places-least zero n = lit≤ tt
+places-least (suc f) n = cases (ltb n 10) (λ b. rw b (lit≤ tt)) (λ b. rw b (omega (arith, places-least f (n / 10))))
+
 decimal-zero : decimal 0 ≡ 48 ∷ []
 unfolding digits placesFrom
 decimal-zero = refl
@@ -151,6 +164,14 @@ unfolding digits
 decimal-is n k h l =
     let e : n / 10 ^ k % 10 ≡ n / 10 ^ k = omega (arith, l .one) in
     rw (places-are 19 n k l (omega (arith, few n k 10 l (omega arith))), e)
+
+behind-from : (n k : ℕ) → n < 2 ^ 32 → Leads (n / 10) k → decimal n ≡ decimal (n / 10) ++ (glyph (n % 10) ∷ [])
+behind-from n k h l =
+    let f = few (n / 10) k 10 l (omega arith) in
+    rw (places-are 19 n (suc k) (leads-on n k l) (omega arith), places-are 19 (n / 10) k l (omega arith)) (digit-behind 10 (suc k) n)
+
+pub decimal-behind : (n : ℕ) → 10 ≤ n → n < 2 ^ 32 → decimal n ≡ decimal (n / 10) ++ (glyph (n % 10) ∷ [])
+decimal-behind n p h = let r = has-lead 9 (n / 10) (omega arith) (omega arith) in behind-from n (r .0) h (r .1)
 
 pub decimal-most : (n : ℕ) → n < 2 ^ 32 → length (decimal n) ≤ 10
 decimal-most zero h = rw decimal-zero (lit≤ tt)
@@ -164,21 +185,21 @@ unfolding readMore
 ended v [] h = refl
 ended v (c ∷ t) h = rw h
 
-more-read : (k n : ℕ) (t : List ℕ) → n < 2 ^ 32 → isDigit (first t) ≡ false → readMore (n / 10 ^ k) (digits 10 k n ++ t) ≡ found n t
+more-read-back : (k n : ℕ) (t : List ℕ) → n < 2 ^ 32 → isDigit (first t) ≡ false → readMore (n / 10 ^ k) (digits 10 k n ++ t) ≡ found n t
 unfolding digits readMore
-more-read zero n t h q = rw (div-one n) (ended n t q)
-more-read (suc k) n t h q =
+more-read-back zero n t h q = rw (div-one n) (ended n t q)
+more-read-back (suc k) n t h q =
     let g = glyph-digit (n / 10 ^ k % 10) (omega arith) in
-    rw (g .0, g .1, next-digit 10 k n, lt-ltb (n / 10 ^ k) (2 ^ 32) (omega (arith, div-le-self n (10 ^ k)))) (more-read k n t h q)
+    rw (g .0, g .1, next-digit 10 k n, lt-ltb (n / 10 ^ k) (2 ^ 32) (omega (arith, div-le-self n (10 ^ k)))) (more-read-back k n t h q)
 
-read-more : (v : ℕ) (s : List ℕ) (n : ℕ) (t : List ℕ) → v < 2 ^ 32 → readMore v s ≡ found n t → (k : ℕ) × (s ≡ digits 10 k n ++ t) × (n / 10 ^ k ≡ v) × (n < 2 ^ 32)
+more-read-is : (v : ℕ) (s : List ℕ) (n : ℕ) (t : List ℕ) → v < 2 ^ 32 → readMore v s ≡ found n t → (k : ℕ) × (s ≡ digits 10 k n ++ t) × (n / 10 ^ k ≡ v) × (n < 2 ^ 32)
 unfolding digits readMore
-read-more v [] n t h e = let z : v ≡ n = cc in (0, cc, rw (div-one n) (cc), omega arith)
-read-more v (c ∷ s) n t h e =
+more-read-is v [] n t h e = let z : v ≡ n = cc in (0, cc, rw (div-one n) (cc), omega arith)
+more-read-is v (c ∷ s) n t h e =
     cases (isDigit c)
     (λ b. cases (ltb (10 * v + (c - 48)) (2 ^ 32))
     (λ l.
-    let r = read-more (10 * v + (c - 48)) s n t (ltb-true _ _ l) (rw (b, l) at e) in
+    let r = more-read-is (10 * v + (c - 48)) s n t (ltb-true _ _ l) (rw (b, l) at e) in
     let g = digit-glyph c b in
     let m = digit-in-front 10 (r .0) n v (c - 48) c s t (g .1) (g .0) (r .2) (r .1) in
     (suc (r .0), m .0, m .1, r .3))
@@ -190,12 +211,12 @@ unfolding readCount
 count-from n k t h l q =
     let g = glyph-digit (n / 10 ^ k) (l .one) in
     let f : eqb (glyph (n / 10 ^ k)) 48 ≡ false = ne-eqb _ _ (λ (z : glyph (n / 10 ^ k) ≡ 48). omega (arith, l .some, g .1)) in
-    rw (decimal-is n k h l, f, g .0, g .1) (more-read k n t h q)
+    rw (decimal-is n k h l, f, g .0, g .1) (more-read-back k n t h q)
 
-pub count-read : (n : ℕ) (t : List ℕ) → n < 2 ^ 32 → isDigit (first t) ≡ false → readCount (decimal n ++ t) ≡ found n t
+pub count-read-back : (n : ℕ) (t : List ℕ) → n < 2 ^ 32 → isDigit (first t) ≡ false → readCount (decimal n ++ t) ≡ found n t
 unfolding readCount
-count-read zero t h q = rw decimal-zero
-count-read (suc m) t h q = let r = has-lead 9 (suc m) (omega arith) (omega arith) in count-from (suc m) (r .0) t h (r .1) q
+count-read-back zero t h q = rw decimal-zero
+count-read-back (suc m) t h q = let r = has-lead 9 (suc m) (omega arith) (omega arith) in count-from (suc m) (r .0) t h (r .1) q
 
 -- a digit that is no zero, and k more
 decimal-of : (c k n : ℕ) (s t : List ℕ) → isDigit c ≡ true → c ≢ 48 → n < 2 ^ 32 → n / 10 ^ k ≡ c - 48 → s ≡ digits 10 k n ++ t → c ∷ s ≡ decimal n ++ t
@@ -205,9 +226,9 @@ decimal-of c k n s t d z h e q =
     let l : Leads n k = record { some = omega arith; one = omega arith } in
     rw (decimal-is n k h l, e, g .0) (ap (λ x. c ∷ x) q)
 
-pub read-count : (s : List ℕ) (n : ℕ) (t : List ℕ) → readCount s ≡ found n t → (s ≡ decimal n ++ t) × (n < 2 ^ 32)
+pub count-read-is : (s : List ℕ) (n : ℕ) (t : List ℕ) → readCount s ≡ found n t → (s ≡ decimal n ++ t) × (n < 2 ^ 32)
 unfolding readCount
-read-count s n t e =
+count-read-is s n t e =
     cases (eqb (first s) 48)
     (λ b.
     let c = eqb-true (first s) 48 b in
@@ -217,6 +238,6 @@ read-count s n t e =
     (λ b. cases (isDigit (first s))
     (λ d.
     let p = digit-range (first s) d in
-    let r = read-more (first s - 48) (after s) n t (omega arith) (rw (b, d) at e) in
+    let r = more-read-is (first s - 48) (after s) n t (omega arith) (rw (b, d) at e) in
     (has-first s (omega arith) ∙ decimal-of (first s) (r .0) n (after s) t d (eqb-false (first s) 48 b) (r .3) (r .2) (r .1), r .3))
     (λ d. absurd (not-found n t (rw (b, d) at e))))

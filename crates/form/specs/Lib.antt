@@ -6,3 +6,4 @@ pub mod Written
 pub mod DigitLaws
 pub mod Sound
 pub mod BothWays
+pub mod Departure

@@ -2,3 +2,5 @@ pub mod Request
 pub mod Rows
 pub mod Answer
 pub mod BothWays
+pub mod Points
+pub mod Departure
