@@ -19,12 +19,12 @@ use Rattle.descent.specs.declared.Status.{Status}
 use Rattle.descent.specs.declared.Status.the-variants.{Converged, EvaluationLimit, IterationLimit}
 use Rattle.descent.specs.Descent.{Trial, search, descend}
 use Rattle.objective.specs.declared.totals.Totals.{Totals}
-use Rattle.fit.specs.declared.search.Plan.{Plan}
-use Rattle.fit.specs.declared.search.Attempt.{Attempt}
+use Rattle.search.specs.declared.Plan.{Plan}
+use Rattle.search.specs.declared.Attempt.{Attempt}
 use Rattle.fit.specs.declared.descend.Descent.{Descent}
-use Rattle.fit.specs.Search.{normAt, directionAt, problemOf, noSearched, searchedFrom, searchedOf}
+use Rattle.search.specs.Search.{normAt, directionAt, problemOf, noSearched, searchedFrom, searchedOf}
+use Rattle.search.specs.Follows.{by-step}
 use Rattle.fit.specs.Descend.{refusalOf, stoppedOf, failedOf, lastOf, descentFrom, descentOf}
-use Rattle.fit.proofs.SearchLaws.{by-step}
 
 module _ (rule : List Pair) (ls : List ℕ) (p : Plan) where
   trialsAt : List Float → Totals → ℕ → List Trial → ℕ → List Trial

@@ -18,12 +18,12 @@ use Rattle.objective.specs.declared.sum.Objective.{Objective}
 use Rattle.objective.specs.Totals.{noTotals}
 use Rattle.objective.specs.Objective.{objective, limitedOf}
 use Rattle.objective.specs.Litters.{countOf}
-use Rattle.fit.specs.declared.request.Request.{Request}
-use Rattle.fit.specs.declared.search.Plan.{Plan}
+use Rattle.request.specs.declared.Request.{Request}
+use Rattle.search.specs.declared.Plan.{Plan}
 use Rattle.fit.specs.declared.descend.Descent.{Descent}
 use Rattle.fit.specs.declared.report.Fit.{Fit}
-use Rattle.fit.specs.Request.{upTo, admits, validBoxes, validControls, validLimit, startOf, lowOf, highOf}
-use Rattle.fit.specs.Search.{normAt, totalsIn}
+use Rattle.request.specs.Request.{upTo, admits, validBoxes, validControls, validLimit, startOf, lowOf, highOf}
+use Rattle.search.specs.Search.{normAt, totalsIn}
 use Rattle.fit.specs.Descend.{refusalOf, descentFrom, descentOf, noDescended}
 use Rattle.fit.specs.Fit.{planOf, sdsOf, activeOf, refusedOf, wholeOf, reportedOf, fit, limitedFit, fitOf}
 

@@ -1,15 +1,15 @@
 // The descent's loop: the tests at its head, a search along a direction, a step.
-use crate::search::Plan;
 use descent::Status;
 use legendre::Pair;
 use objective::totals::Totals;
+use search::Plan;
 use work::Ending;
 use work::FitEvaluations;
 use work::Iterations;
 use work::QuadratureEvaluations;
 ghost use mathlib.Core.Path.{_≡_};
 ghost use Prim.Native.Nat.{_^_, _≤_, _<_};
-ghost use Rattle.fit.specs.Search.{directionAt};
+ghost use Rattle.search.specs.Search.{directionAt};
 ghost use Rattle.fit.specs.Descend.{refusalOf, stoppedOf, failedOf, lastOf, descentOf};
 
 // Where a descent stopped, or its refusal.
@@ -70,8 +70,8 @@ fn direction_at(lo: [f64; 4], hi: [f64; 4], x: [f64; 4], v: Totals) -> [f64; 4]
 {
     let gradient = v.gradient;
     let hessian = v.hessian;
-    let g = crate::step::project(x, gradient, lo, hi);
-    crate::step::direction(x, g, hessian, lo, hi)
+    let g = step::project(x, gradient, lo, hi);
+    step::direction(x, g, hessian, lo, hi)
 }
 
 // At the last turn's end: a third test follows the two of the loop's head.
@@ -80,7 +80,7 @@ fn last(p: Plan, used: u64, x: [f64; 4], v: Totals, e: u64) -> Descent
 {
     let lo = p.lo;
     let hi = p.hi;
-    if crate::search::norm_at(lo, hi, x, v) <= p.tolerance {
+    if search::norm_at(lo, hi, x, v) <= p.tolerance {
         return stopped(Status::Converged, used, x, v, e, p.turns.0);
     }
     if p.most.0 <= e {
@@ -107,14 +107,14 @@ pub fn descend(
     let mut e: u64 = 1;
     let mut used = before;
     for k in 0..p.turns.0 {
-        if crate::search::norm_at(lo, hi, x, v) <= p.tolerance {
+        if search::norm_at(lo, hi, x, v) <= p.tolerance {
             return stopped(Status::Converged, used, x, v, e, k);
         }
         if p.most.0 <= e {
             return stopped(Status::EvaluationLimit, used, x, v, e, k);
         }
         let d = direction_at(lo, hi, x, v);
-        let s = crate::search::search(litters, rule, p, x, v, d, e, used);
+        let s = search::search(litters, rule, p, x, v, d, e, used);
         let end = s.end;
         used = s.used.0;
         if work::refused(end) {

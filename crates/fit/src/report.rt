@@ -1,9 +1,9 @@
 // The fit of a request, and its report.
 use crate::descend::Descent;
-use crate::request::Request;
-use crate::search::Plan;
 use descent::Status;
 use legendre::Pair;
+use request::Request;
+use search::Plan;
 use work::Ending;
 use work::FitEvaluations;
 use work::Iterations;
@@ -12,7 +12,7 @@ ghost use mathlib.Core.Path.{_≡_};
 ghost use Prim.Native.Nat.{_^_, _<_};
 ghost use Rattle.legendre.specs.Legendre.{legendreOf};
 ghost use Rattle.objective.specs.Litters.{countOf};
-ghost use Rattle.fit.specs.Request.{startOf};
+ghost use Rattle.request.specs.Request.{startOf};
 ghost use Rattle.fit.specs.Fit.{planOf, sdOf, sdsOf, onBound, activeOf, refusedOf, wholeOf, reportedOf, fitOf};
 
 // `active` marks the coordinates that lie on a bound: two means, then two variances.
@@ -55,8 +55,8 @@ fn plan(r: Request) -> Plan
     let turns = r.iterations;
     let limit = r.quadrature;
     Plan {
-        lo: crate::request::low(r),
-        hi: crate::request::high(r),
+        lo: request::low(r),
+        hi: request::high(r),
         tolerance: r.tolerance,
         most,
         turns,
@@ -76,7 +76,7 @@ fn sds(r: Request, x: [f64; 4]) -> [f64; 2]
 fn on_bound(x: f64, lo: f64, hi: f64) -> bool
     ensures { λ r. ⌜ r ≡ onBound x lo hi ⌝ }
 {
-    crate::step::either(x == lo, x == hi)
+    step::either(x == lo, x == hi)
 }
 
 fn active(x: [f64; 4], lo: [f64; 4], hi: [f64; 4]) -> [bool; 4]
@@ -96,8 +96,8 @@ fn reported(r: Request, n: u64, d: Descent) -> Fit
     if work::refused(end) {
         return refusal(end, d.used.0);
     }
-    let lo = crate::request::low(r);
-    let hi = crate::request::high(r);
+    let lo = request::low(r);
+    let hi = request::high(r);
     let x = d.x;
     let v = d.v;
     let status = d.status;
@@ -110,7 +110,7 @@ fn reported(r: Request, n: u64, d: Descent) -> Fit
         means: [x[0], x[1]],
         sds: sds(r, x),
         nll: v.nll,
-        norm: crate::search::norm_at(lo, hi, x, v),
+        norm: search::norm_at(lo, hi, x, v),
         evaluations,
         iterations,
         quadrature,
@@ -130,7 +130,7 @@ fn whole(litters: &[u32], rule: [Pair; 16], p: Plan, x: [f64; 4]) -> Descent
     if work::refused(end) {
         return crate::descend::refusal(end, used);
     }
-    crate::descend::descend(litters, rule, p, x, crate::search::totals_of(o), used)
+    crate::descend::descend(litters, rule, p, x, search::totals_of(o), used)
 }
 
 fn fit_admitted(r: Request, litters: &[u32]) -> Fit
@@ -138,22 +138,17 @@ fn fit_admitted(r: Request, litters: &[u32]) -> Fit
     ensures { λ f. ⌜ f ≡ reportedOf r (countOf (now (litters .entry))) (wholeOf legendreOf (now (litters .entry)) (planOf r) (startOf r)) ⌝ }
 {
     let n = litters.len() / 3;
-    let d = whole(
-        litters,
-        legendre::legendre(),
-        plan(r),
-        crate::request::start(r),
-    );
+    let d = whole(litters, legendre::legendre(), plan(r), request::start(r));
     reported(r, n as u64, d)
 }
 
 pub fn fit_probit_normal_binomial(r: Request, litters: &[u32]) -> Fit
     ensures { λ f. ⌜ (f ≡ fitOf r (now (litters .entry))) × (now (litters .exit) ≡ now (litters .entry)) ⌝ }
 {
-    if !crate::request::up_to(20000000, r.quadrature.0) {
+    if !request::up_to(20000000, r.quadrature.0) {
         return refusal(Ending::InvalidInput, 0);
     }
-    if !crate::request::admitted(r, litters) {
+    if !request::admitted(r, litters) {
         return refusal(Ending::InvalidInput, 0);
     }
     fit_admitted(r, litters)

@@ -11,7 +11,7 @@ use Rattle.elementary.specs.Cos.{cosOf}
 use Rattle.elementary.specs.Hypot.{hypotOf}
 use Rattle.objective.specs.declared.sum.Objective.{Objective}
 use Rattle.objective.specs.Objective.{objectiveOf}
-use Rattle.fit.specs.declared.request.Request.{Request}
+use Rattle.request.specs.declared.Request.{Request}
 use Rattle.fit.specs.declared.report.Fit.{Fit}
 use Rattle.fit.specs.Fit.{fitOf}
 use Rattle.summary.specs.declared.Summary.{Summary}
