@@ -30,8 +30,8 @@ pub struct Fit {
     pub active: [bool; 4],
 }
 
-fn refusal(end: Ending, used: u64) -> Fit
-    ensures { λ r. ⌜ r ≡ refusedOf end used ⌝ }
+fn refusal(end: Ending, used: QuadratureEvaluations) -> Fit
+    ensures { λ r. ⌜ r ≡ refusedOf end (used .0) ⌝ }
 {
     Fit {
         end,
@@ -42,7 +42,7 @@ fn refusal(end: Ending, used: u64) -> Fit
         norm: 0.0,
         evaluations: FitEvaluations(0),
         iterations: Iterations(0),
-        quadrature: QuadratureEvaluations(used),
+        quadrature: used,
         litters: 0,
         active: [false; 4],
     }
@@ -93,29 +93,36 @@ fn reported(r: Request, n: u64, d: Descent) -> Fit
     ensures { λ f. ⌜ f ≡ reportedOf r n d ⌝ }
 {
     let end = d.end;
+    let quadrature = d.used;
     if work::refused(end) {
-        return refusal(end, d.used.0);
+        return refusal(end, quadrature);
     }
     let lo = request::low(r);
     let hi = request::high(r);
     let x = d.x;
     let v = d.v;
+    let a = x[0];
+    let b = x[1];
+    let c = x[2];
+    let e = x[3];
+    let s = sds(r, x);
+    let first = s[0];
+    let second = s[1];
     let status = d.status;
     let evaluations = d.evaluations;
     let iterations = d.iterations;
-    let quadrature = d.used;
     Fit {
         end: Ending::Answered,
         status,
-        means: [x[0], x[1]],
-        sds: sds(r, x),
+        means: [a, b],
+        sds: [first, second],
         nll: v.nll,
         norm: search::norm_at(lo, hi, x, v),
         evaluations,
         iterations,
         quadrature,
         litters: n,
-        active: active(x, lo, hi),
+        active: active([a, b, c, e], lo, hi),
     }
 }
 
@@ -126,7 +133,7 @@ fn whole(litters: &[u32], rule: [Pair; 16], p: Plan, x: [f64; 4]) -> Descent
     let limit = p.limit;
     let o = objective::limited_objective(rule, x, litters, limit);
     let end = o.end;
-    let used = o.used.0;
+    let used = o.used;
     if work::refused(end) {
         return crate::descend::refusal(end, used);
     }
@@ -146,10 +153,10 @@ pub fn fit_probit_normal_binomial(r: Request, litters: &[u32]) -> Fit
     ensures { λ f. ⌜ (f ≡ fitOf r (now (litters .entry))) × (now (litters .exit) ≡ now (litters .entry)) ⌝ }
 {
     if !request::up_to(20000000, r.quadrature.0) {
-        return refusal(Ending::InvalidInput, 0);
+        return refusal(Ending::InvalidInput, QuadratureEvaluations(0));
     }
     if !request::admitted(r, litters) {
-        return refusal(Ending::InvalidInput, 0);
+        return refusal(Ending::InvalidInput, QuadratureEvaluations(0));
     }
     fit_admitted(r, litters)
 }

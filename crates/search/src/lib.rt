@@ -32,13 +32,13 @@ pub struct Attempt {
     pub v: Totals,
 }
 
-fn nothing(end: Ending, used: u64, e: u64) -> Attempt
-    ensures { λ r. ⌜ r ≡ nothingOf end used e ⌝ }
+fn nothing(end: Ending, used: QuadratureEvaluations, e: FitEvaluations) -> Attempt
+    ensures { λ r. ⌜ r ≡ nothingOf end (used .0) (e .0) ⌝ }
 {
     Attempt {
         end,
-        used: QuadratureEvaluations(used),
-        evaluations: FitEvaluations(e),
+        used,
+        evaluations: e,
         found: false,
         x: [0.0; 4],
         v: Totals {
@@ -92,10 +92,10 @@ fn judged(
     slope: f64,
     next: [f64; 4],
     c: Totals,
-    e: u64,
-    used: u64,
+    e: FitEvaluations,
+    used: QuadratureEvaluations,
 ) -> Attempt
-    ensures { λ r. ⌜ r ≡ judgedOf p x v slope next c e used ⌝ }
+    ensures { λ r. ⌜ r ≡ judgedOf p x v slope next c (e .0) (used .0) ⌝ }
 {
     let lo = p.lo;
     let hi = p.hi;
@@ -105,8 +105,8 @@ fn judged(
     if step::either(is_decrease(v.nll, slope, c.nll), rounded) {
         return Attempt {
             end: Ending::Answered,
-            used: QuadratureEvaluations(used),
-            evaluations: FitEvaluations(e),
+            used,
+            evaluations: e,
             found: true,
             x: next,
             v: c,
@@ -124,16 +124,17 @@ fn tried(
     v: Totals,
     d: [f64; 4],
     alpha: f64,
-    made: u64,
-    used: u64,
+    made: FitEvaluations,
+    used: QuadratureEvaluations,
 ) -> Attempt
-    requires { ⌜ (used ≤ p .limit .0) × (p .limit .0 < 2 ^ 63) × (made < 2 ^ 63) ⌝ }
-    ensures { λ r. ⌜ r ≡ triedOf rule (now (litters .entry)) p x v d alpha made used ⌝ }
+    requires { ⌜ (used .0 ≤ p .limit .0) × (p .limit .0 < 2 ^ 63) × (made .0 < 2 ^ 63) ⌝ }
+    ensures { λ r. ⌜ r ≡ triedOf rule (now (litters .entry)) p x v d alpha (made .0) (used .0) ⌝ }
 {
     let lo = p.lo;
     let hi = p.hi;
     let gradient = v.gradient;
-    let more = made + 1;
+    let raised = made.0 + 1;
+    let more = FitEvaluations(raised);
     let next = step::candidate(x, d, alpha, lo, hi);
     let slope = step::slope(gradient, next, x);
     if step::either(0.0 <= slope, step::still(next, x)) {
@@ -143,12 +144,13 @@ fn tried(
         rule,
         next,
         litters,
-        QuadratureEvaluations(p.limit.0 - used),
+        QuadratureEvaluations(p.limit.0 - used.0),
     );
-    let spent = used + o.used.0;
+    let sum = used.0 + o.used.0;
+    let spent = QuadratureEvaluations(sum);
     let end = o.end;
     if work::refused(end) {
-        return nothing(end, spent, 0);
+        return nothing(end, spent, FitEvaluations(0));
     }
     judged(p, x, v, slope, next, totals_of(o), more, spent)
 }
@@ -160,29 +162,29 @@ pub fn search(
     x: [f64; 4],
     v: Totals,
     d: [f64; 4],
-    start: u64,
-    before: u64,
+    start: FitEvaluations,
+    before: QuadratureEvaluations,
 ) -> Attempt
-    requires { ⌜ (before ≤ p .limit .0) × (p .limit .0 < 2 ^ 63) × (p .most .0 < 2 ^ 63) ⌝ }
-    ensures { λ r. ⌜ ((ts : List Trial) → r ≡ searchedOf rule (now (litters .entry)) p x v d start ts before) ⌝ }
+    requires { ⌜ (before .0 ≤ p .limit .0) × (p .limit .0 < 2 ^ 63) × (p .most .0 < 2 ^ 63) ⌝ }
+    ensures { λ r. ⌜ ((ts : List Trial) → r ≡ searchedOf rule (now (litters .entry)) p x v d (start .0) ts (before .0)) ⌝ }
 {
     let mut alpha = 1.0;
     let mut e = start;
     let mut used = before;
     for _ in 0..48u64 {
-        if p.most.0 <= e {
+        if p.most.0 <= e.0 {
             return nothing(Ending::Answered, used, e);
         }
         let a = tried(litters, rule, p, x, v, d, alpha, e, used);
         let end = a.end;
-        used = a.used.0;
+        used = a.used;
         if work::refused(end) {
-            return nothing(end, used, 0);
+            return nothing(end, used, FitEvaluations(0));
         }
         if a.found {
             return a;
         }
-        e = a.evaluations.0;
+        e = a.evaluations;
         alpha = alpha * 0.5;
     }
     nothing(Ending::Answered, used, e)

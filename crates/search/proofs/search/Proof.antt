@@ -9,42 +9,43 @@ use Rattle.search.proofs.search.Statement.{statement}
 use Rattle.search.proofs.search.Tie as tie
 
 abbrev Inv-loop : tie.InvT-loop
-Inv-loop litters rule p x v d start before alpha₀ e₀ used₀ counter₀ alpha e used counter = (used ≤ p .limit .0) × Left rule litters p x v d (λ ts. searchedOf rule litters p x v d start ts before) (48 - counter) alpha e used
+Inv-loop litters rule p x v d alpha₀ e₀ used₀ counter₀ alpha e used counter = (used .0 ≤ p .limit .0) × Left rule litters p x v d (λ ts. searchedOf rule litters p x v d (e₀ .0) ts (used₀ .0)) (48 - counter) alpha (e .0) (used .0)
 
 abbrev μ-loop : tie.MeasureT-loop
-μ-loop litters rule p x v d start before alpha₀ e₀ used₀ counter₀ alpha e used counter = 48 - counter
+μ-loop litters rule p x v d alpha₀ e₀ used₀ counter₀ alpha e used counter = 48 - counter
 
 loop-holds : tie.Need-loop-holds Inv-loop μ-loop
 loop-holds c = (c .before .pre .0, begins _ _ _ _ _ _ _ _)
 
 returns : tie.Need-returns Inv-loop μ-loop
 returns c =
-    let l = c .before .before .before in
+    let l = c .before .before .before .before in
     search-cut _ _ _ _ _ _ _ _ _ _ _ _ (l .before .loop .inv .1) _ (l .loop-test .taken) (c .before .if1 .taken) (c .nothing .ensures)
 
 returns-2 : tie.Need-returns-2 Inv-loop μ-loop
 returns-2 c =
     let r = c .before .before in
-    let t = r .before in
-    let l = t .before .before .before in
+    let t = r .before .before in
+    let l = t .before .before .before .before in
     search-stops _ _ _ _ _ _ _ _ _ _ _ _ (l .before .loop .inv .1) _ (l .loop-test .taken) (t .before .if1 .left) (t .tried .ensures) _ (by-call _ _ _ (r .refused .ensures) (c .before .if2 .taken)) (c .nothing2 .ensures)
 
 returns-3 : tie.Need-returns-3 Inv-loop μ-loop
 returns-3 c =
     let r = c .before .before in
-    let t = r .before in
-    let l = t .before .before .before in
+    let t = r .before .before in
+    let l = t .before .before .before .before in
     search-finds _ _ _ _ _ _ _ _ _ _ _ _ (l .before .loop .inv .1) _ (l .loop-test .taken) (t .before .if1 .left) (t .tried .ensures) (by-call _ _ _ (r .refused .ensures) (c .before .if2 .left)) (c .if3 .taken)
 
 loop-again : tie.Need-loop-again Inv-loop μ-loop
 loop-again c =
-    let r = c .before .before in
-    let t = r .before in
-    let l = t .before .before .before in
+    let q = c .before in
+    let r = q .before .before in
+    let t = r .before .before in
+    let l = t .before .before .before .before in
     let i = l .before .loop .inv in
     let below = i .0 in
     let answer = t .tried .ensures in
-    (search tried-fits, search-turn _ _ _ _ _ _ _ _ _ _ _ _ (i .1) _ (l .loop-test .taken) (t .before .if1 .left) answer (by-call _ _ _ (r .refused .ensures) (c .before .if2 .left)) (c .if3 .left))
+    (search tried-fits, search-turn _ _ _ _ _ _ _ _ _ _ _ _ (i .1) _ (l .loop-test .taken) (t .before .if1 .left) answer (by-call _ _ _ (r .refused .ensures) (q .before .if2 .left)) (q .if3 .left))
 
 returns-4 : tie.Need-returns-4 Inv-loop μ-loop
 returns-4 c =
@@ -53,7 +54,7 @@ returns-4 c =
 
 tried-requires : tie.Need-tried-requires Inv-loop μ-loop
 tried-requires c κs =
-    let l = c .before .before .before in
+    let l = c .before .before .before .before in
     let s = l .before .before in
     (l .loop .inv .0, s .pre .1, omega (arith, s .pre .2, c .if1 .left))
 
