@@ -9,7 +9,7 @@ use Rattle.work.specs.declared.Ending.{Ending}
 use Rattle.work.specs.Ended.{isRefused, numberOf, reasonOf}
 use Rattle.descent.specs.declared.Status.{Status}
 use Rattle.descent.specs.declared.Status.the-variants.{NoStatus, Converged, EvaluationLimit, IterationLimit, LineSearchFailed}
-use Rattle.fit.specs.declared.request.Request.{Request}
+use Rattle.request.specs.declared.Request.{Request}
 use Rattle.fit.specs.declared.report.Fit.{Fit}
 use Rattle.fit.specs.Fit.{fitOf}
 use Rattle.form.specs.Form.{ascii, render}
