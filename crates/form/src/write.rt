@@ -1,0 +1,52 @@
+// A form written into a lent buffer: a count in decimal, an f64's bits in hexadecimal, any other byte as it is.
+ghost use mathlib.Core.Path.{_≡_};
+ghost use mathlib.Core.List.{_∷_, []};
+ghost use Prim.Native.Nat.{_+_, _/_, _%_, _^_, _≤_, _<_};
+ghost use lib.ListN.{length};
+ghost use Rattle.form.specs.Digits.{glyph as Digits·glyph, digits as Digits·digits, places as Digits·places};
+ghost use Rattle.form.specs.Written.{written};
+
+// How many digits n has in decimal; never more than twenty.
+fn places(n: u64) -> usize
+    ensures { λ r. ⌜ r ≡ Digits·places n ⌝ }
+{
+    let mut rest = n;
+    for k in 1..20usize {
+        if rest < 10 {
+            return k;
+        }
+        rest = rest / 10;
+    }
+    20
+}
+
+// The digit of n at place k, counted from the last.
+fn digit(base: u64, k: usize, n: u64) -> u64
+    requires { ⌜ 1 < base ⌝ }
+    ensures { λ r. ⌜ r ≡ n / base ^ k % base ⌝ }
+{
+    let mut rest = n;
+    for _ in 0..k {
+        rest = rest / base;
+    }
+    rest % base
+}
+
+fn glyph(d: u64) -> u8
+    requires { ⌜ d < 16 ⌝ }
+    ensures { λ r. ⌜ r ≡ Digits·glyph d ⌝ }
+{
+    if d < 10 { 48 + d as u8 } else { 87 + d as u8 }
+}
+
+// The last k digits of n, from place `at` on; answers the place after them.
+pub fn digits(base: u64, k: usize, n: u64, out: &mut [u8], at: usize) -> usize
+    requires { ⌜ (1 < base) × (base ≤ 16) × (at + k ≤ length (now out)) ⌝ }
+    ensures { λ r. ⌜ (r ≡ at + k) × (now (out .exit) ≡ written (now (out .entry)) at (Digits·digits base k n)) ⌝ }
+{
+    let end = at + k;
+    for i in at..end {
+        out[i] = glyph(digit(base, end - (i + 1), n));
+    }
+    end
+}
