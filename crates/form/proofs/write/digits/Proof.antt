@@ -3,14 +3,12 @@ use mathlib.Core.Path.{_≡_}
 use Prim.Native.Nat.{_-_, _≤_}
 use native.Mathlib.Omega.{arith}
 use borrow.Author.Needs.{needs}
-use lib.ListN.{length, length-set}
+use lib.ListN.{length}
 use Rattle.form.specs.Digits.{digits}
 use Rattle.form.specs.Written.{written}
 use Rattle.form.proofs.WriteLaws.{digit-small, digits-begin, digits-turn, digits-done}
 use Rattle.form.proofs.write.digits.Statement.{statement}
 use Rattle.form.proofs.write.digits.Tie as tie
-use Rattle.form.proofs.write.digits.Reads as reads
-use Rattle.form.proofs.write.digits.Lts as lts
 
 abbrev Inv-loop : tie.InvT-loop
 Inv-loop base k n out₀ at end i₀ out i =
