@@ -4,7 +4,7 @@ use mathlib.Core.Bool.{Bool, true, false, cond}
 use mathlib.Core.List.{List, [], _∷_, _++_}
 use Prim.Native.Nat.{ℕ, zero, suc, _+_, _-_, _/_, _%_, _^_, _≤_, _<_}
 use native.Mathlib.Numerals.{add-one}
-use native.Mathlib.Nat.{pow-zero, pow-suc, div-one, mod-lt, div-div-eq-div-mul}
+use native.Mathlib.Nat.{add-zero, pow-zero, pow-suc, div-one, mod-lt, div-div-eq-div-mul}
 use native.Mathlib.Omega.{arith}
 use borrow.Author.Tests.{lt-ltb, le-ltb, ne-eqb}
 use lib.Dec.{ltb}
@@ -184,3 +184,17 @@ module _ (f vs : List ℕ) (i k at : ℕ) (h : length f ≤ i) where
   pub put-done : (w l : List ℕ) → written l at (rest f vs i k) ≡ w → l ≡ w
   unfolding written
   put-done w l j = rw (rest-none f vs i k h) at j
+
+-- ---- a text as it is
+pub text-begins : (s l : List ℕ) (at : ℕ) → written l (at + 0) s ≡ written l at s
+text-begins s l at = rw add-zero
+
+pub text-turn : (w s l : List ℕ) (at i : ℕ) → written l (at + i) (drop i s) ≡ w → i < length s → written (set l (at + i) (getD s i 0)) (at + (i + 1)) (drop (i + 1) s) ≡ w
+unfolding written
+text-turn w s l at i j h =
+    let e : at + (i + 1) ≡ at + i + 1 = omega arith in
+    rw (e, add-one i) (rw (drop-cons s i 0 h) at j)
+
+pub text-done : (w s l : List ℕ) (at i : ℕ) → written l (at + i) (drop i s) ≡ w → length s ≤ i → l ≡ w
+unfolding written
+text-done w s l at i j h = rw (drop-of-length-le s h) at j

@@ -53,6 +53,17 @@ pub fn digits(base: u64, k: usize, n: u64, out: &mut [u8], at: usize) -> usize
     end
 }
 
+// The bytes of s, from place `at` on; answers the place after them.
+pub fn text(s: &[u8], out: &mut [u8], at: usize) -> usize
+    requires { ⌜ at + length (now s) ≤ length (now out) ⌝ }
+    ensures { λ r. ⌜ (r ≡ at + length (now (s .entry))) × (now (out .exit) ≡ written (now (out .entry)) at (now (s .entry))) ⌝ }
+{
+    for i in 0..s.len() {
+        out[at + i] = s[i];
+    }
+    at + s.len()
+}
+
 fn value(values: &[u64], i: usize) -> u64
     ensures { λ r. ⌜ r ≡ getD (now (values .entry)) i 0 ⌝ }
 {
