@@ -1,2 +1,4 @@
 pub mod Request
 pub mod Answer
+pub mod Marks
+pub mod Room

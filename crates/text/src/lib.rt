@@ -1,4 +1,2 @@
 // A request's text read, and its answer printed.
-pub fn nothing() -> u64 {
-    0
-}
+pub mod print;

@@ -1,7 +1,6 @@
 -- `write::text` meets its contract: what stands written, with the bytes left, is the whole.
 use mathlib.Core.Path.{_≡_}
 use Prim.Native.Nat.{_+_, _-_, _≤_}
-use native.Mathlib.Omega.{arith}
 use borrow.Author.Needs.{needs}
 use lib.ListN.{length, drop}
 use Rattle.form.specs.Written.{written}
