@@ -7,3 +7,5 @@ pub mod DigitLaws
 pub mod Sound
 pub mod BothWays
 pub mod Departure
+pub mod WrittenLaws
+pub mod Width

@@ -4,3 +4,5 @@ pub mod Answer
 pub mod BothWays
 pub mod Points
 pub mod Departure
+pub mod Marks
+pub mod Room
