@@ -1,5 +1,6 @@
 -- Reading and rendering by a form are inverse: what is rendered is read back, and what is read is a rendering.
 use mathlib.Core.Path.{_≡_, refl, sym, ap, _∙_}
+use mathlib.Core.Logic.{_≢_}
 use mathlib.Core.Bool.{Bool, true, false, cond, _&&_, _||_, not, true≢false}
 use mathlib.Core.List.{List, [], _∷_, _++_, append-assoc}
 use Prim.Native.Nat.{ℕ, zero, suc, _/_, _^_, _≤_, _<_}
@@ -149,6 +150,10 @@ read-rendered (c ∷ f) vs t line h b =
     let r = field-read-back (kind c) vs (render f (left c vs) ++ t) (limits f) b (no-digit c f (left c vs) t (p .ends)) in
     let ih = read-rendered f (left c vs) t (lineAfter c line) (p .rest) (r .rest) in
     rw (append-assoc (piece c vs) (render f (left c vs)) t, r .here, ih, r .values)
+
+-- where the reading departs, no rendering of the form stands
+pub not-there : (f s vs t : List ℕ) (line k : ℕ) → T (sound f) → read f line s ≡ departsAt k → Holds f vs → s ≢ render f vs ++ t
+not-there f s vs t line k h e b q = not-done k vs t (sym e ∙ rw q (read-rendered f vs t line h b))
 
 -- ---- what the values are
 

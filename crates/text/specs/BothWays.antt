@@ -55,9 +55,9 @@ abbrev pub lastLine : ℕ → ℕ → List ℕ
 lastLine n start = render rows (n ∷ start ∷ [])
 
 -- the last line is no litter's: its first byte is another
-no-litter : (line : ℕ) (us : List ℕ) → read litter line (render rows us) ≡ departsAt line
+pub no-litter : (line : ℕ) (us t : List ℕ) → read litter line (render rows us ++ t) ≡ departsAt line
 unfolding read readField readByte render litter rows
-no-litter line us = refl
+no-litter line us t = refl
 
 pub last-holds : (n start : ℕ) → n < 2 ^ 32 → start < 2 ^ 32 → Holds rows (n ∷ start ∷ [])
 unfolding limits rows
@@ -70,43 +70,49 @@ unfolding readRows renderLitters
 rows-read-back zero vs start n ls a h g b = absurd (omega arith)
 rows-read-back (suc k) vs start n [] a h g b =
     let us = n ∷ start ∷ [] in
+    let m = append-nil (render rows us) in
     let r = read-rendered rows us [] (8 + n) rows-sound (last-holds n start (omega arith) b) in
-    let e : read rows (8 + n) (render rows us) ≡ done us [] = rw (append-nil (render rows us)) at r in
-    rw (add-zero n, no-litter (8 + n) us, e, eq-eqb n n refl, eq-eqb start start refl)
+    rw (add-zero n, ← m, no-litter (8 + n) us [], r, eq-eqb n n refl, eq-eqb start start refl)
 rows-read-back (suc k) vs start n (l ∷ ls) a h g b =
     let m : n + suc (length ls) ≡ n + 1 + length ls = omega arith in
     let rest = renderLitters ls ++ lastLine (n + 1 + length ls) start in
     rw
     (m, append-assoc (render litter l) (renderLitters ls) (lastLine (n + 1 + length ls) start), read-rendered litter l rest (8 + n) litter-sound (a .0), rows-read-back k vs start (n + 1) ls (a .1) (omega arith) (omega arith) b)
 
--- no line is empty
-pub forms-some : (1 ≤ length head) × (1 ≤ length litter) × (1 ≤ length rows)
-unfolding head litter rows
-forms-some = (lit≤ tt, lit≤ tt, lit≤ tt)
+-- neither is empty
+pub forms-some : (1 ≤ length head) × (1 ≤ length litter)
+unfolding head litter
+forms-some = (lit≤ tt, lit≤ tt)
 
-litters-some : (ls : List (List ℕ)) → length ls ≤ length (renderLitters ls)
+pub litters-some : (ls : List (List ℕ)) → length ls ≤ length (renderLitters ls)
 unfolding renderLitters
 litters-some [] = zero-le
 litters-some (l ∷ ls) = rw (length-append (render litter l) (renderLitters ls)) (omega (arith, forms-some, render-least litter l, litters-some ls))
 
 -- the text in its three parts, and its length
-parts-long : (a b c : List ℕ) → length (a ++ (b ++ c)) ≡ length a + (length b + length c)
+pub parts-long : (a b c : List ℕ) → length (a ++ (b ++ c)) ≡ length a + (length b + length c)
 parts-long a b c = simp length-append
+
+-- after the head, its rows are read
+pub after-head : (vs rest : List ℕ) → Holds head vs → length (render head vs ++ rest) ≤ 8192 → readRequest (render head vs ++ rest) ≡ readRows 8192 vs (length (render head vs)) 0 rest
+unfolding readRequest
+after-head vs rest b h =
+    let start = length (render head vs) in
+    let z : length (render head vs ++ rest) - length rest ≡ start = rw (length-append (render head vs) rest) (add-sub-cancel start (length rest)) in
+    rw (le-ltb 8192 (length (render head vs ++ rest)) h, read-rendered head vs rest 1 head-sound b, z)
 
 -- What is rendered is read back, if it is no longer than a text may be.
 pub request-read-back : (vs : List ℕ) (ls : List (List ℕ)) → Asks vs ls → length (renderRequest vs ls) ≤ 8192 → readRequest (renderRequest vs ls) ≡ asked vs ls
-unfolding renderRequest readRequest
+unfolding renderRequest
 request-read-back vs ls a h =
     let start = length (render head vs) in
-    let us = length ls ∷ start ∷ [] in
-    let rest = renderLitters ls ++ render rows us in
-    let n = parts-long (render head vs) (renderLitters ls) (render rows us) in
+    let last = lastLine (length ls) start in
+    let n = parts-long (render head vs) (renderLitters ls) last in
     let s = litters-some ls in
-    let s' = render-least rows us in
     let o = forms-some in
-    let z : length (render head vs ++ rest) - length rest ≡ start = rw (length-append (render head vs) rest) (add-sub-cancel start (length rest)) in
+    let s' = render-least head vs in
     let r = rows-read-back 8192 vs start 0 ls (a .litters) (omega arith) (omega arith) (omega arith) in
-    rw (le-ltb 8192 (length (render head vs ++ rest)) h, read-rendered head vs rest 1 head-sound (a .heads), z) (rw (zero-add (length ls)) at r)
+    after-head vs (renderLitters ls ++ last) (a .heads) h ∙ (rw (zero-add (length ls)) at r)
 
 -- ---- how long a request is
 
