@@ -1,3 +1,4 @@
 // A request's text read, and its answer printed.
-pub mod read;
+pub mod answer;
 pub mod print;
+pub mod read;
