@@ -4,3 +4,4 @@ pub mod Read
 pub mod Written
 pub mod WrittenLaws
 pub mod Width
+pub mod Examples
