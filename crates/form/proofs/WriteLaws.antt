@@ -7,7 +7,6 @@ use native.Mathlib.Numerals.{add-one}
 use native.Mathlib.Nat.{add-zero, pow-zero, pow-suc, div-one, mod-lt, div-div-eq-div-mul}
 use native.Mathlib.Omega.{arith}
 use borrow.Author.Tests.{lt-ltb, le-ltb, ne-eqb}
-use lib.Dec.{ltb}
 use lib.ListN.{length, drop, getD, set, length-append, drop-of-length-le, List·getD-eq-default}
 use lib.Seq.{drop-cons}
 use Rattle.num.specs.Left.{left-one, left-none}
@@ -69,10 +68,6 @@ same-written l l′ bs at e = ap length e ∙ length-written l at bs
 
 pub kept : (l l′ bs : List ℕ) (at n : ℕ) → length l ≡ n → l′ ≡ written l at bs → length l′ ≡ n
 kept l l′ bs at n h e = same-written l l′ bs at e ∙ h
-
--- what was put in is bs by another name
-pub by-text : (l l′ bs ds : List ℕ) (at : ℕ) → l′ ≡ written l at ds → ds ≡ bs → l′ ≡ written l at bs
-by-text l l′ bs ds at p e = rw (← e) p
 
 module _ (c v : ℕ) where
   pub as-count : (k : ℕ) → c ≡ 35 → k ≡ placesFrom 19 v → digits 10 k v ≡ piece c (v ∷ [])

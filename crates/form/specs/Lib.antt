@@ -9,3 +9,4 @@ pub mod BothWays
 pub mod Departure
 pub mod WrittenLaws
 pub mod Width
+pub mod Examples

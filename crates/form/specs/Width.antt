@@ -6,7 +6,7 @@ use Prim.Native.Nat.{ℕ, zero, suc, _+_, _/_, _≤_, zero-le}
 use native.Mathlib.Omega.{arith}
 use lib.Dec.{ltb}
 use lib.ListN.{length, length-append}
-use Rattle.form.specs.Digits.{digits, placesFrom, places}
+use Rattle.form.specs.Digits.{digits, placesFrom}
 use Rattle.form.specs.Form.{isCount, isBits, isHole, piece, left, render, first}
 
 -- a count has at most twenty digits, an f64's bits have sixteen

@@ -21,6 +21,10 @@ written-append l at (x ∷ a) b =
     let e : at + 1 + length a ≡ at + suc (length a) = omega arith in
     rw (written-append (set l at x) (at + 1) a b, e)
 
+-- the text by another name
+pub by-text : (l l′ bs ds : List ℕ) (at : ℕ) → l′ ≡ written l at ds → ds ≡ bs → l′ ≡ written l at bs
+by-text l l′ bs ds at p e = rw (← e) p
+
 -- the text that was put in stands after what stood before it
 pub take-written : (l : List ℕ) (at : ℕ) (bs : List ℕ) → at + length bs ≤ length l → take (at + length bs) (written l at bs) ≡ take at l ++ bs
 unfolding written
@@ -36,3 +40,7 @@ pub take-whole : (l bs : List ℕ) → length bs ≤ length l → take (length b
 take-whole l bs h =
     let k : 0 + length bs ≤ length l = omega arith in
     rw zero-add at (take-written l 0 bs k)
+
+-- what a caller learns of a function that answers how many bytes of bs it put in at the start
+pub stands : (l l′ bs : List ℕ) (r : ℕ) → length bs ≤ length l → r ≡ length bs → l′ ≡ written l 0 bs → take r l′ ≡ bs
+stands l l′ bs r h p e = rw (p, e) (take-whole l bs h)

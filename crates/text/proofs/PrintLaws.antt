@@ -41,12 +41,9 @@ nan-bits nan h = refl
 nan-bits (inf s) h = absurd (subst T (sym (same-sign s) ∙ h) tt)
 nan-bits (fin s m e) h = absurd (subst T (sym (same-level s (m * up e * down e)) ∙ h) tt)
 
--- ---- what was put in is bs by another name
+-- ---- what was put in by another name, and at the start
 pub by-length : (bs ds : List ℕ) (at r : ℕ) → r ≡ at + length ds → ds ≡ bs → r ≡ at + length bs
 by-length bs ds at r p e = rw (← e) p
-
-pub by-text : (l l′ bs ds : List ℕ) (at : ℕ) → l′ ≡ written l at ds → ds ≡ bs → l′ ≡ written l at bs
-by-text l l′ bs ds at p e = rw (← e) p
 
 pub from-start : (bs : List ℕ) (r : ℕ) → r ≡ 0 + length bs → r ≡ length bs
 from-start bs r p = rw zero-add at p

@@ -12,7 +12,7 @@ use Rattle.form.proofs.write.digits.Tie as tie
 
 abbrev Inv-loop : tie.InvT-loop
 Inv-loop base k n out₀ at end i₀ out i =
-    (written out i (digits base (end - i) n) ≡ written out₀ at (digits base k n)) × (length out ≡ length out₀) × (i ≤ end)
+    (written out i (digits base (end - i) n) ≡ written out₀ at (digits base k n)) × (length out ≡ length out₀) × (at ≤ i) × (i ≤ end)
 
 abbrev μ-loop : tie.MeasureT-loop
 μ-loop base k n out₀ at end i₀ out i = end - i

@@ -1,6 +1,7 @@
 -- `write::piece` meets its contract.
 use borrow.Author.Needs.{needs}
-use Rattle.form.proofs.WriteLaws.{same-written, ends-count, ends-bits, ends-byte, by-text, by-byte, as-count, as-bits, room-count, room-bits, room-byte}
+use Rattle.form.specs.WrittenLaws.{by-text}
+use Rattle.form.proofs.WriteLaws.{same-written, ends-count, ends-bits, ends-byte, by-byte, as-count, as-bits, room-count, room-bits, room-byte}
 use Rattle.form.proofs.write.piece.Statement.{statement}
 use Rattle.form.proofs.write.piece.Tie as tie
 

@@ -1,6 +1,7 @@
 -- `print::active` meets its contract.
 use borrow.Author.Needs.{needs}
-use Rattle.text.proofs.PrintLaws.{by-length, by-text, some-length, some-text, none}
+use Rattle.form.specs.WrittenLaws.{by-text}
+use Rattle.text.proofs.PrintLaws.{by-length, some-length, some-text, none}
 use Rattle.text.proofs.print.active.Statement.{statement}
 use Rattle.text.proofs.print.active.Tie as tie
 

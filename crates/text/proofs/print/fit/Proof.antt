@@ -1,6 +1,7 @@
 -- `print::fit` meets its contract, by the test of its ending.
 use borrow.Author.Needs.{needs}
-use Rattle.text.proofs.PrintLaws.{by-whole, by-text, fit-refused, fit-reported}
+use Rattle.form.specs.WrittenLaws.{by-text}
+use Rattle.text.proofs.PrintLaws.{by-whole, fit-refused, fit-reported}
 use Rattle.text.proofs.print.fit.Statement.{statement}
 use Rattle.text.proofs.print.fit.Tie as tie
 

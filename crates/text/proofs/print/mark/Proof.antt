@@ -1,7 +1,8 @@
 -- `print::mark` meets its contract.
 use borrow.Author.Needs.{needs}
 use Rattle.num.specs.Choose.{choose}
-use Rattle.text.proofs.PrintLaws.{by-length, by-text, unset-length, unset-text}
+use Rattle.form.specs.WrittenLaws.{by-text}
+use Rattle.text.proofs.PrintLaws.{by-length, unset-length, unset-text}
 use Rattle.text.proofs.print.mark.Statement.{statement}
 use Rattle.text.proofs.print.mark.Tie as tie
 

@@ -1,7 +1,8 @@
 -- `print::status` meets its contract, each status by its own text.
 use borrow.Author.Needs.{needs}
 use Rattle.text.specs.Answer.{statusText}
-use Rattle.text.proofs.PrintLaws.{by-length, by-text, by-status}
+use Rattle.form.specs.WrittenLaws.{by-text}
+use Rattle.text.proofs.PrintLaws.{by-length, by-status}
 use Rattle.text.proofs.print.status.Statement.{statement}
 use Rattle.text.proofs.print.status.Tie as tie
 
