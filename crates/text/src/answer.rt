@@ -59,6 +59,7 @@ fn fitted(r: Request, litters: &[u32], out: &mut [u8]) -> usize
 pub fn answer(text: &[u8], out: &mut [u8]) -> usize
     ensures { λ n. ⌜ (length (now (out .entry)) < room → (n ≡ 0) × (now (out .exit) ≡ now (out .entry))) ⌝ }
     ensures { λ n. ⌜ (room ≤ length (now (out .entry)) → (n ≡ length (answerText (now (text .entry)))) × (now (out .exit) ≡ written (now (out .entry)) 0 (answerText (now (text .entry))))) ⌝ }
+    ensures { λ n. ⌜ n ≤ room ⌝ }
 {
     if out.len() < 300 {
         return 0;
