@@ -1,6 +1,6 @@
 // The oracle as a library: reads a request, runs the module on it and gives its answer in our print.
 // Each fit, objective and row is run twice, on the text as given and on the copy with hooks, and both must agree.
-// What Rust leaves open is here as rustc has it. Its sum starts at -0.0: that shows in the call tail_bound alone, with a slope or an SD below zero.
+// What Rust leaves open is here as rustc has it. Its sum starts at -0.0: that shows in the call tail_bound alone, where the slope is minus infinity.
 // Its powi multiplies as ours does. No max or min of the module meets two zeros whose signs an answer could show.
 pub use hook::{Evaluation, Seen};
 use qspquest_core::fit::FitStatus;

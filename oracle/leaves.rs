@@ -229,8 +229,8 @@ fn numbers(c: &Call) -> ([f64; 32], [f64; 32], usize) {
             let total = c.wholes[0] as u32;
             a[0] = opened::open_tail_bound(x[0], x[1], x[2], x[3], total);
             b[0] = unsafe { leaf_tail_bound(x[0], x[1], x[2], x[3], total) };
-            // The sum starts at -0 in rustc and at +0 here: no request has such a slope or SD.
-            if a[0] == 0. && (x[1].is_sign_negative() || x[3].is_sign_negative()) {
+            // The sum starts at -0 in rustc and at +0 here, which shows where all its terms are -0: no request has such a slope.
+            if a[0] == 0. && x[1] == f64::NEG_INFINITY {
                 (a[0], b[0]) = (a[0] + 0., b[0] + 0.);
             }
             1
