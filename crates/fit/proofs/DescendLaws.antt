@@ -4,7 +4,6 @@ use mathlib.Core.Bool.{Bool, true, false, cond}
 use mathlib.Core.List.{List, []}
 use Prim.Native.Nat.{ℕ, zero, suc, _+_, _-_, _<_, _≤_}
 use native.Mathlib.Nat.{le-refl}
-use borrow.Author.Tests.{le-leb, lt-leb}
 use lib.Dec.{leb}
 use lib.Ieee.{Float, le}
 use Rattle.num.specs.F64.{one·}
@@ -19,12 +18,12 @@ use Rattle.descent.specs.declared.Status.{Status}
 use Rattle.descent.specs.declared.Status.the-variants.{Converged, EvaluationLimit, IterationLimit}
 use Rattle.descent.specs.Descent.{Trial, search, descend}
 use Rattle.objective.specs.declared.totals.Totals.{Totals}
-use Rattle.fit.specs.declared.search.Plan.{Plan}
-use Rattle.fit.specs.declared.search.Attempt.{Attempt}
+use Rattle.search.specs.declared.Plan.{Plan}
+use Rattle.search.specs.declared.Attempt.{Attempt}
 use Rattle.fit.specs.declared.descend.Descent.{Descent}
-use Rattle.fit.specs.Search.{normAt, directionAt, problemOf, noSearched, searchedFrom, searchedOf}
+use Rattle.search.specs.Search.{normAt, directionAt, problemOf, noSearched, searchedFrom, searchedOf}
+use Rattle.search.specs.Follows.{by-step}
 use Rattle.fit.specs.Descend.{refusalOf, stoppedOf, failedOf, lastOf, descentFrom, descentOf}
-use Rattle.fit.proofs.SearchLaws.{by-step}
 
 module _ (rule : List Pair) (ls : List ℕ) (p : Plan) where
   trialsAt : List Float → Totals → ℕ → List Trial → ℕ → List Trial
@@ -59,12 +58,12 @@ module _ (rule : List Pair) (ls : List ℕ) (p : Plan) where
     pub descend-near : (r : Descent) → k < n → le m (p .tolerance) ≡ true → r ≡ stoppedOf Converged used x v e k → r ≡ whole
     descend-near r h t u = u ∙ (rw (left-one n k h, descend-step, ← b, t) at (i .makes))
 
-    pub descend-spent : (r : Descent) → k < n → le m (p .tolerance) ≡ false → p .most .0 ≤ e → r ≡ stoppedOf EvaluationLimit used x v e k → r ≡ whole
-    descend-spent r h t g u = u ∙ (rw (left-one n k h, descend-step, ← b, t, le-leb _ _ g) at (i .makes))
+    pub descend-spent : (r : Descent) → k < n → le m (p .tolerance) ≡ false → leb (p .most .0) e ≡ true → r ≡ stoppedOf EvaluationLimit used x v e k → r ≡ whole
+    descend-spent r h t g u = u ∙ (rw (left-one n k h, descend-step, ← b, t, g) at (i .makes))
 
-    module _ (d : List Float) (s : Attempt) (h : k < n) (t : le m (p .tolerance) ≡ false) (g : e < p .most .0) (c : d ≡ directionAt (p .lo) (p .hi) x v) (f : (ts : List Trial) → s ≡ searchedOf rule ls p x v d e ts used) where
+    module _ (d : List Float) (s : Attempt) (h : k < n) (t : le m (p .tolerance) ≡ false) (g : leb (p .most .0) e ≡ false) (c : d ≡ directionAt (p .lo) (p .hi) x v) (f : (ts : List Trial) → s ≡ searchedOf rule ls p x v d e ts used) where
       step : cond (isRefused (s .end)) (refusalOf (s .end) (s .used .0)) (cond (s .found) (descentFrom rule ls p (n - (k + 1)) (s .x) (s .v) (s .evaluations .0) (k + 1) (trialsAt x v e (i .behind) used) (s .used .0)) (stoppedOf (failedOf (p .most .0) (s .evaluations .0)) (s .used .0) x v (s .evaluations .0) k)) ≡ whole
-      step = rw (left-one n k h, descend-step, ← b, t, lt-leb _ _ g, ← c, ← f (i .behind)) at (i .makes)
+      step = rw (left-one n k h, descend-step, ← b, t, g, ← c, ← f (i .behind)) at (i .makes)
 
       pub descend-stops : (r : Descent) → isRefused (s .end) ≡ true → r ≡ refusalOf (s .end) (s .used .0) → r ≡ whole
       descend-stops r y u = u ∙ (rw y at step)

@@ -18,12 +18,12 @@ use Rattle.objective.specs.declared.sum.Objective.{Objective}
 use Rattle.objective.specs.Totals.{noTotals}
 use Rattle.objective.specs.Objective.{objective, limitedOf}
 use Rattle.objective.specs.Litters.{countOf}
-use Rattle.fit.specs.declared.request.Request.{Request}
-use Rattle.fit.specs.declared.search.Plan.{Plan}
+use Rattle.request.specs.declared.Request.{Request}
+use Rattle.search.specs.declared.Plan.{Plan}
 use Rattle.fit.specs.declared.descend.Descent.{Descent}
 use Rattle.fit.specs.declared.report.Fit.{Fit}
-use Rattle.fit.specs.Request.{upTo, admits, validBoxes, validControls, validLimit, startOf, lowOf, highOf}
-use Rattle.fit.specs.Search.{normAt, totalsIn}
+use Rattle.request.specs.Request.{upTo, admits, validBoxes, validControls, validLimit, startOf, lowOf, highOf}
+use Rattle.search.specs.Search.{normAt, totalsIn}
 use Rattle.fit.specs.Descend.{refusalOf, descentFrom, descentOf, noDescended}
 use Rattle.fit.specs.Fit.{planOf, sdsOf, activeOf, refusedOf, wholeOf, reportedOf, fit, limitedFit, fitOf}
 
@@ -50,8 +50,8 @@ module _ (r : Request) (n : ℕ) (d : Descent) where
   unfolding reportedOf
   reported-stops f t u = rw t u
 
-  pub reported-gives : (lo hi s : List Float) (m : Float) (a : List Bool) → isRefused (d .end) ≡ false → lo ≡ lowOf r → hi ≡ highOf r → s ≡ sdsOf r (d .x) → m ≡ normAt lo hi (d .x) (d .v) → a ≡ activeOf (d .x) lo hi → record { end = Answered; status = d .status; means = getD (d .x) 0 nan ∷ getD (d .x) 1 nan ∷ []; sds = s; nll = d .v .nll; norm = m; evaluations = d .evaluations; iterations = d .iterations; quadrature = d .used; litters = n; active = a } ≡ reportedOf r n d
-  unfolding reportedOf
+  pub reported-gives : (lo hi s : List Float) (m : Float) (a : List Bool) → isRefused (d .end) ≡ false → lo ≡ lowOf r → hi ≡ highOf r → s ≡ sdsOf r (d .x) → m ≡ normAt lo hi (d .x) (d .v) → a ≡ activeOf (getD (d .x) 0 nan ∷ getD (d .x) 1 nan ∷ getD (d .x) 2 nan ∷ getD (d .x) 3 nan ∷ []) lo hi → record { end = Answered; status = d .status; means = getD (d .x) 0 nan ∷ getD (d .x) 1 nan ∷ []; sds = getD s 0 nan ∷ getD s 1 nan ∷ []; nll = d .v .nll; norm = m; evaluations = d .evaluations; iterations = d .iterations; quadrature = d .used; litters = n; active = a } ≡ reportedOf r n d
+  unfolding reportedOf sdsOf activeOf
   reported-gives lo hi s m a t e f g h k = rw (t, g, h, k, e, f)
 
 -- ---- the request's checks

@@ -1,4 +1,2 @@
-pub mod StepLaws
-pub mod SearchLaws
 pub mod DescendLaws
 pub mod FitLaws

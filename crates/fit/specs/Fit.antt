@@ -20,12 +20,12 @@ use Rattle.descent.specs.declared.Status.the-variants.{NoStatus}
 use Rattle.descent.specs.Descent.{descent}
 use Rattle.objective.specs.declared.totals.Totals.{Totals}
 use Rattle.objective.specs.Litters.{countOf}
-use Rattle.fit.specs.declared.request.Request.{Request}
-use Rattle.fit.specs.declared.search.Plan.{Plan}
+use Rattle.request.specs.declared.Request.{Request}
+use Rattle.search.specs.declared.Plan.{Plan}
 use Rattle.fit.specs.declared.descend.Descent.{Descent}
 use Rattle.fit.specs.declared.report.Fit.{Fit}
-use Rattle.fit.specs.Request.{admits, validLimit, startOf, lowOf, highOf}
-use Rattle.fit.specs.Search.{normAt, problemOf}
+use Rattle.request.specs.Request.{admits, validLimit, startOf, lowOf, highOf}
+use Rattle.search.specs.Search.{normAt, problemOf}
 use Rattle.fit.specs.Descend.{toDescent, noDescended}
 
 abbrev pub planOf : Request → Plan

@@ -16,9 +16,9 @@ use Rattle.work.specs.Metered.{metered-is}
 use Rattle.legendre.specs.Legendre.{legendreOf}
 use Rattle.posterior.specs.declared.integrand.Point.{Point}
 use Rattle.posterior.specs.Integrand.{Eval, at}
-use Rattle.fit.specs.declared.request.Request.{Request}
+use Rattle.request.specs.declared.Request.{Request}
 use Rattle.fit.specs.declared.report.Fit.{Fit}
-use Rattle.fit.specs.Request.{admits, validControls, validLimit}
+use Rattle.request.specs.Request.{admits, validControls, validLimit}
 use Rattle.fit.specs.Fit.{Report, sdsOf, fit, toFit, noReport, refusedOf, limitedFit, fitOf}
 
 -- the request with another work limit

@@ -11,9 +11,9 @@ use Rattle.legendre.specs.Legendre.{legendreOf}
 use Rattle.posterior.specs.declared.integrand.Point.{Point}
 use Rattle.posterior.specs.Integrand.{Eval, at}
 use Rattle.descent.specs.Stopping.{statusOf, Stopped, stops}
-use Rattle.fit.specs.declared.request.Request.{Request}
-use Rattle.fit.specs.Request.{admits, startOf}
-use Rattle.fit.specs.Search.{problemOf}
+use Rattle.request.specs.declared.Request.{Request}
+use Rattle.request.specs.Request.{admits, startOf}
+use Rattle.search.specs.Search.{problemOf}
 use Rattle.fit.specs.Fit.{Report, planOf, fit}
 
 pub record StoppedFit (r : Request) (p : Report) : Type 0 where

@@ -1,15 +1,15 @@
 // The descent's loop: the tests at its head, a search along a direction, a step.
-use crate::search::Plan;
 use descent::Status;
 use legendre::Pair;
 use objective::totals::Totals;
+use search::Plan;
 use work::Ending;
 use work::FitEvaluations;
 use work::Iterations;
 use work::QuadratureEvaluations;
 ghost use mathlib.Core.Path.{_≡_};
 ghost use Prim.Native.Nat.{_^_, _≤_, _<_};
-ghost use Rattle.fit.specs.Search.{directionAt};
+ghost use Rattle.search.specs.Search.{directionAt};
 ghost use Rattle.fit.specs.Descend.{refusalOf, stoppedOf, failedOf, lastOf, descentOf};
 
 // Where a descent stopped, or its refusal.
@@ -23,12 +23,12 @@ pub struct Descent {
     pub iterations: Iterations,
 }
 
-pub fn refusal(end: Ending, used: u64) -> Descent
-    ensures { λ r. ⌜ r ≡ refusalOf end used ⌝ }
+pub fn refusal(end: Ending, used: QuadratureEvaluations) -> Descent
+    ensures { λ r. ⌜ r ≡ refusalOf end (used .0) ⌝ }
 {
     Descent {
         end,
-        used: QuadratureEvaluations(used),
+        used,
         status: Status::NoStatus,
         x: [0.0; 4],
         v: Totals {
@@ -42,24 +42,31 @@ pub fn refusal(end: Ending, used: u64) -> Descent
     }
 }
 
-fn stopped(status: Status, used: u64, x: [f64; 4], v: Totals, e: u64, k: u64) -> Descent
-    ensures { λ r. ⌜ r ≡ stoppedOf status used x v e k ⌝ }
+fn stopped(
+    status: Status,
+    used: QuadratureEvaluations,
+    x: [f64; 4],
+    v: Totals,
+    e: FitEvaluations,
+    k: Iterations,
+) -> Descent
+    ensures { λ r. ⌜ r ≡ stoppedOf status (used .0) x v (e .0) (k .0) ⌝ }
 {
     Descent {
         end: Ending::Answered,
-        used: QuadratureEvaluations(used),
+        used,
         status,
         x,
         v,
-        evaluations: FitEvaluations(e),
-        iterations: Iterations(k),
+        evaluations: e,
+        iterations: k,
     }
 }
 
-fn failed(most: u64, e: u64) -> Status
-    ensures { λ r. ⌜ r ≡ failedOf most e ⌝ }
+fn failed(most: FitEvaluations, e: FitEvaluations) -> Status
+    ensures { λ r. ⌜ r ≡ failedOf (most .0) (e .0) ⌝ }
 {
-    if most <= e {
+    if most.0 <= e.0 {
         return Status::EvaluationLimit;
     }
     Status::LineSearchFailed
@@ -70,23 +77,24 @@ fn direction_at(lo: [f64; 4], hi: [f64; 4], x: [f64; 4], v: Totals) -> [f64; 4]
 {
     let gradient = v.gradient;
     let hessian = v.hessian;
-    let g = crate::step::project(x, gradient, lo, hi);
-    crate::step::direction(x, g, hessian, lo, hi)
+    let g = step::project(x, gradient, lo, hi);
+    step::direction(x, g, hessian, lo, hi)
 }
 
 // At the last turn's end: a third test follows the two of the loop's head.
-fn last(p: Plan, used: u64, x: [f64; 4], v: Totals, e: u64) -> Descent
-    ensures { λ r. ⌜ r ≡ lastOf p used x v e ⌝ }
+fn last(p: Plan, used: QuadratureEvaluations, x: [f64; 4], v: Totals, e: FitEvaluations) -> Descent
+    ensures { λ r. ⌜ r ≡ lastOf p (used .0) x v (e .0) ⌝ }
 {
     let lo = p.lo;
     let hi = p.hi;
-    if crate::search::norm_at(lo, hi, x, v) <= p.tolerance {
-        return stopped(Status::Converged, used, x, v, e, p.turns.0);
+    let turns = p.turns;
+    if search::norm_at(lo, hi, x, v) <= p.tolerance {
+        return stopped(Status::Converged, used, x, v, e, turns);
     }
-    if p.most.0 <= e {
-        return stopped(Status::EvaluationLimit, used, x, v, e, p.turns.0);
+    if p.most.0 <= e.0 {
+        return stopped(Status::EvaluationLimit, used, x, v, e, turns);
     }
-    stopped(Status::IterationLimit, used, x, v, e, p.turns.0)
+    stopped(Status::IterationLimit, used, x, v, e, turns)
 }
 
 pub fn descend(
@@ -95,34 +103,37 @@ pub fn descend(
     p: Plan,
     start: [f64; 4],
     value: Totals,
-    before: u64,
+    before: QuadratureEvaluations,
 ) -> Descent
-    requires { ⌜ (before ≤ p .limit .0) × (p .limit .0 < 2 ^ 63) × (p .most .0 < 2 ^ 63) × (p .turns .0 < 2 ^ 63) ⌝ }
-    ensures { λ r. ⌜ r ≡ descentOf rule (now (litters .entry)) p start value before ⌝ }
+    requires { ⌜ (before .0 ≤ p .limit .0) × (p .limit .0 < 2 ^ 63) × (p .most .0 < 2 ^ 63) × (p .turns .0 < 2 ^ 63) ⌝ }
+    ensures { λ r. ⌜ r ≡ descentOf rule (now (litters .entry)) p start value (before .0) ⌝ }
 {
     let lo = p.lo;
     let hi = p.hi;
+    let most = p.most;
     let mut x = start;
     let mut v = value;
-    let mut e: u64 = 1;
+    let mut e = FitEvaluations(1);
     let mut used = before;
     for k in 0..p.turns.0 {
-        if crate::search::norm_at(lo, hi, x, v) <= p.tolerance {
-            return stopped(Status::Converged, used, x, v, e, k);
+        let near = search::norm_at(lo, hi, x, v) <= p.tolerance;
+        let spent = most.0 <= e.0;
+        if near {
+            return stopped(Status::Converged, used, x, v, e, Iterations(k));
         }
-        if p.most.0 <= e {
-            return stopped(Status::EvaluationLimit, used, x, v, e, k);
+        if spent {
+            return stopped(Status::EvaluationLimit, used, x, v, e, Iterations(k));
         }
         let d = direction_at(lo, hi, x, v);
-        let s = crate::search::search(litters, rule, p, x, v, d, e, used);
+        let s = search::search(litters, rule, p, x, v, d, e, used);
         let end = s.end;
-        used = s.used.0;
+        used = s.used;
         if work::refused(end) {
             return refusal(end, used);
         }
-        e = s.evaluations.0;
+        e = s.evaluations;
         if !s.found {
-            return stopped(failed(p.most.0, e), used, x, v, e, k);
+            return stopped(failed(most, e), used, x, v, e, Iterations(k));
         }
         x = s.x;
         v = s.v;

@@ -1,9 +1,9 @@
 // The fit of a request, and its report.
 use crate::descend::Descent;
-use crate::request::Request;
-use crate::search::Plan;
 use descent::Status;
 use legendre::Pair;
+use request::Request;
+use search::Plan;
 use work::Ending;
 use work::FitEvaluations;
 use work::Iterations;
@@ -12,7 +12,7 @@ ghost use mathlib.Core.Path.{_≡_};
 ghost use Prim.Native.Nat.{_^_, _<_};
 ghost use Rattle.legendre.specs.Legendre.{legendreOf};
 ghost use Rattle.objective.specs.Litters.{countOf};
-ghost use Rattle.fit.specs.Request.{startOf};
+ghost use Rattle.request.specs.Request.{startOf};
 ghost use Rattle.fit.specs.Fit.{planOf, sdOf, sdsOf, onBound, activeOf, refusedOf, wholeOf, reportedOf, fitOf};
 
 // `active` marks the coordinates that lie on a bound: two means, then two variances.
@@ -30,8 +30,8 @@ pub struct Fit {
     pub active: [bool; 4],
 }
 
-fn refusal(end: Ending, used: u64) -> Fit
-    ensures { λ r. ⌜ r ≡ refusedOf end used ⌝ }
+fn refusal(end: Ending, used: QuadratureEvaluations) -> Fit
+    ensures { λ r. ⌜ r ≡ refusedOf end (used .0) ⌝ }
 {
     Fit {
         end,
@@ -42,7 +42,7 @@ fn refusal(end: Ending, used: u64) -> Fit
         norm: 0.0,
         evaluations: FitEvaluations(0),
         iterations: Iterations(0),
-        quadrature: QuadratureEvaluations(used),
+        quadrature: used,
         litters: 0,
         active: [false; 4],
     }
@@ -55,8 +55,8 @@ fn plan(r: Request) -> Plan
     let turns = r.iterations;
     let limit = r.quadrature;
     Plan {
-        lo: crate::request::low(r),
-        hi: crate::request::high(r),
+        lo: request::low(r),
+        hi: request::high(r),
         tolerance: r.tolerance,
         most,
         turns,
@@ -76,7 +76,7 @@ fn sds(r: Request, x: [f64; 4]) -> [f64; 2]
 fn on_bound(x: f64, lo: f64, hi: f64) -> bool
     ensures { λ r. ⌜ r ≡ onBound x lo hi ⌝ }
 {
-    crate::step::either(x == lo, x == hi)
+    step::either(x == lo, x == hi)
 }
 
 fn active(x: [f64; 4], lo: [f64; 4], hi: [f64; 4]) -> [bool; 4]
@@ -93,29 +93,36 @@ fn reported(r: Request, n: u64, d: Descent) -> Fit
     ensures { λ f. ⌜ f ≡ reportedOf r n d ⌝ }
 {
     let end = d.end;
+    let quadrature = d.used;
     if work::refused(end) {
-        return refusal(end, d.used.0);
+        return refusal(end, quadrature);
     }
-    let lo = crate::request::low(r);
-    let hi = crate::request::high(r);
+    let lo = request::low(r);
+    let hi = request::high(r);
     let x = d.x;
     let v = d.v;
+    let a = x[0];
+    let b = x[1];
+    let c = x[2];
+    let e = x[3];
+    let s = sds(r, x);
+    let first = s[0];
+    let second = s[1];
     let status = d.status;
     let evaluations = d.evaluations;
     let iterations = d.iterations;
-    let quadrature = d.used;
     Fit {
         end: Ending::Answered,
         status,
-        means: [x[0], x[1]],
-        sds: sds(r, x),
+        means: [a, b],
+        sds: [first, second],
         nll: v.nll,
-        norm: crate::search::norm_at(lo, hi, x, v),
+        norm: search::norm_at(lo, hi, x, v),
         evaluations,
         iterations,
         quadrature,
         litters: n,
-        active: active(x, lo, hi),
+        active: active([a, b, c, e], lo, hi),
     }
 }
 
@@ -126,11 +133,11 @@ fn whole(litters: &[u32], rule: [Pair; 16], p: Plan, x: [f64; 4]) -> Descent
     let limit = p.limit;
     let o = objective::limited_objective(rule, x, litters, limit);
     let end = o.end;
-    let used = o.used.0;
+    let used = o.used;
     if work::refused(end) {
         return crate::descend::refusal(end, used);
     }
-    crate::descend::descend(litters, rule, p, x, crate::search::totals_of(o), used)
+    crate::descend::descend(litters, rule, p, x, search::totals_of(o), used)
 }
 
 fn fit_admitted(r: Request, litters: &[u32]) -> Fit
@@ -138,23 +145,18 @@ fn fit_admitted(r: Request, litters: &[u32]) -> Fit
     ensures { λ f. ⌜ f ≡ reportedOf r (countOf (now (litters .entry))) (wholeOf legendreOf (now (litters .entry)) (planOf r) (startOf r)) ⌝ }
 {
     let n = litters.len() / 3;
-    let d = whole(
-        litters,
-        legendre::legendre(),
-        plan(r),
-        crate::request::start(r),
-    );
+    let d = whole(litters, legendre::legendre(), plan(r), request::start(r));
     reported(r, n as u64, d)
 }
 
 pub fn fit_probit_normal_binomial(r: Request, litters: &[u32]) -> Fit
     ensures { λ f. ⌜ (f ≡ fitOf r (now (litters .entry))) × (now (litters .exit) ≡ now (litters .entry)) ⌝ }
 {
-    if !crate::request::up_to(20000000, r.quadrature.0) {
-        return refusal(Ending::InvalidInput, 0);
+    if !request::up_to(20000000, r.quadrature.0) {
+        return refusal(Ending::InvalidInput, QuadratureEvaluations(0));
     }
-    if !crate::request::admitted(r, litters) {
-        return refusal(Ending::InvalidInput, 0);
+    if !request::admitted(r, litters) {
+        return refusal(Ending::InvalidInput, QuadratureEvaluations(0));
     }
     fit_admitted(r, litters)
 }

@@ -26,11 +26,11 @@ use Rattle.objective.specs.Litters as litters
 use Rattle.objective.specs.Objective.{rows, objective}
 use Rattle.descent.specs.declared.Status.the-variants.{Converged}
 use Rattle.descent.specs.Descent.{descend}
-use Rattle.fit.specs.declared.request.Bounds.{Bounds}
-use Rattle.fit.specs.declared.request.Request.{Request}
+use Rattle.request.specs.declared.Bounds.{Bounds}
+use Rattle.request.specs.declared.Request.{Request}
 use Rattle.fit.specs.declared.report.Fit.{Fit}
-use Rattle.fit.specs.Request.{validMean, validSd, validMeans, validSds, validControls, ofGroup, twoEach, admits}
-use Rattle.fit.specs.Step.{projectOf, normOf}
+use Rattle.request.specs.Request.{validMean, validSd, validMeans, validSds, validControls, ofGroup, twoEach, admits}
+use Rattle.step.specs.Step.{projectOf, normOf}
 use Rattle.fit.specs.Fit.{activeOf, sdsOf, fit, limitedFit, fitOf, refusedOf}
 
 abbrev pub both : Float → List Float

@@ -1,55 +1,133 @@
--- No second answer meets a contract of the form `r ≡ definition`: one lemma, and what it says of the public functions.
+-- No second answer meets a contract of the form `r ≡ definition`: one lemma, and what it says of each public function.
 use mathlib.Core.Path.{_≡_, sym, _∙_}
-use mathlib.Core.List.{List}
-use Prim.Native.Nat.{ℕ}
-use lib.Ieee.{Float}
-use Rattle.elementary.specs.Exp.{expOf}
-use Rattle.elementary.specs.Log.{logOf}
-use Rattle.elementary.specs.Erfc.{erfcOf}
+use mathlib.Core.Bool.{_&&_, _||_}
+use mathlib.Core.List.{List, []}
+use Prim.Native.Nat.{ℕ, _-_}
+use lib.Ieee.{Float, nan}
+use Rattle.num.specs.F64.{infinity·}
+use Rattle.num.specs.Helpers.{absOf, isFinite, maxOf, minOf, clampOf, powiOf, sumOf}
+use Rattle.root.specs.Steps.{sqrtOf}
+use Rattle.tables.specs.Exp.{expRow}
+use Rattle.tables.specs.Log.{logRow}
+use Rattle.tables.specs.Erfc.{erfcRow}
+use Rattle.elementary.specs.Exp.{expOf, expLow}
+use Rattle.elementary.specs.Log.{logOf, logParts}
+use Rattle.elementary.specs.Erfc.{erfcOf, erfcPos}
 use Rattle.elementary.specs.Lgamma.{lgammaOf}
 use Rattle.elementary.specs.Cos.{cosOf}
 use Rattle.elementary.specs.Hypot.{hypotOf}
-use Rattle.objective.specs.declared.sum.Objective.{Objective}
-use Rattle.objective.specs.Objective.{objectiveOf}
-use Rattle.fit.specs.declared.request.Request.{Request}
-use Rattle.fit.specs.declared.report.Fit.{Fit}
+use Rattle.work.specs.Ended.{isRefused, numberOf, reasonOf}
+use Rattle.normal.specs.declared.mills.LogMills.{LogMills}
+use Rattle.normal.specs.declared.twins.Twins.{Twins}
+use Rattle.normal.specs.Normal.{logPhi, normalOf}
+use Rattle.normal.specs.Conditional.{millsOf, conditionalOf}
+use Rattle.legendre.specs.Legendre.{legendreOf}
+use Rattle.posterior.specs.Side.{firstOf, risesOf, steepOf, outwardOf, flatOf}
+use Rattle.posterior.specs.Integrand.{integrandOf, atOf}
+use Rattle.posterior.specs.Bracket.{endsOf, checkedOf}
+use Rattle.posterior.specs.Mode.{modeOf}
+use Rattle.posterior.specs.Tail.{tailBoundOf, rangeOf, goalOf}
+use Rattle.row.specs.Coefficient.{coefficientOf}
+use Rattle.row.specs.Peak.{locatedOf, limitsOf}
+use Rattle.row.specs.Quadrature.{integralOf}
+use Rattle.row.specs.Share.{rowOf}
+use Rattle.objective.specs.Litters.{validLitters, validPoint}
+use Rattle.objective.specs.Totals.{indexOf, accumulatedOf}
+use Rattle.objective.specs.Objective.{limitedOf, objectiveOf}
+use Rattle.descent.specs.Descent.{Trial}
+use Rattle.descent.specs.Status as status
+use Rattle.summary.specs.Summary.{extremeOf, noCounts, plusOf, litterCountsOf, countsOf, summaryOf}
+use Rattle.request.specs.Request.{upTo, admits, startOf, lowOf, highOf}
+use Rattle.step.specs.Step.{projectOf, normOf, directionOf, candidateOf, slopeOf, stillOf}
+use Rattle.search.specs.declared.Attempt.{Attempt}
+use Rattle.search.specs.Search.{totalsIn, normAt}
+use Rattle.fit.specs.Descend.{refusalOf, descentOf}
 use Rattle.fit.specs.Fit.{fitOf}
-use Rattle.summary.specs.declared.Summary.{Summary}
-use Rattle.summary.specs.Summary.{summaryOf}
 
 pub one-answer : {A : Type 0} (definition r s : A) → r ≡ definition → s ≡ definition → r ≡ s
 one-answer definition r s e f = e ∙ sym f
 
-pub one-fit : (q : Request) (ls : List ℕ) (r s : Fit) → r ≡ fitOf q ls → s ≡ fitOf q ls → r ≡ s
-one-fit q ls = one-answer (fitOf q ls)
+-- the lemma for a definition of no argument, of one, of two and so on, at every choice of them
+pub record One0 {R : Type 0} (d : R) : Type 0 where
+  pub one : (r s : R) → r ≡ d → s ≡ d → r ≡ s
 
-pub one-objective : (x : List Float) (ls : List ℕ) (r s : Objective) → r ≡ objectiveOf x ls → s ≡ objectiveOf x ls → r ≡ s
-one-objective x ls = one-answer (objectiveOf x ls)
+pub record One1 {A R : Type 0} (f : A → R) : Type 0 where
+  pub one : (a : A) → One0 (f a)
 
-pub one-summary : (ls : List ℕ) (r s : Summary) → r ≡ summaryOf ls → s ≡ summaryOf ls → r ≡ s
-one-summary ls = one-answer (summaryOf ls)
+pub record One2 {A B R : Type 0} (f : A → B → R) : Type 0 where
+  pub one : (a : A) → One1 (f a)
 
--- the elementary functions; the root's statement by squares has a theorem of its own, `one-root`
-pub record OneValue (f : Float → Float) : Type 0 where
-  pub one : (x r s : Float) → r ≡ f x → s ≡ f x → r ≡ s
+pub record One3 {A B C R : Type 0} (f : A → B → C → R) : Type 0 where
+  pub one : (a : A) → One2 (f a)
 
-one-value : (f : Float → Float) → OneValue f
-one-value f = record { one = λ x. one-answer (f x) }
+pub record One4 {A B C D R : Type 0} (f : A → B → C → D → R) : Type 0 where
+  pub one : (a : A) → One3 (f a)
 
-pub one-exp : OneValue expOf
-one-exp = one-value expOf
+pub record One5 {A B C D E R : Type 0} (f : A → B → C → D → E → R) : Type 0 where
+  pub one : (a : A) → One4 (f a)
 
-pub one-log : OneValue logOf
-one-log = one-value logOf
+pub record One6 {A B C D E F R : Type 0} (f : A → B → C → D → E → F → R) : Type 0 where
+  pub one : (a : A) → One5 (f a)
 
-pub one-erfc : OneValue erfcOf
-one-erfc = one-value erfcOf
+pub one0 : {R : Type 0} (d : R) → One0 d
+one0 d = record { one = one-answer d }
 
-pub one-lgamma : OneValue lgammaOf
-one-lgamma = one-value lgammaOf
+pub one1 : {A R : Type 0} (f : A → R) → One1 f
+one1 f = record { one = λ a. one0 (f a) }
 
-pub one-cos : OneValue cosOf
-one-cos = one-value cosOf
+pub one2 : {A B R : Type 0} (f : A → B → R) → One2 f
+one2 f = record { one = λ a. one1 (f a) }
 
-pub one-hypot : (a b r s : Float) → r ≡ hypotOf a b → s ≡ hypotOf a b → r ≡ s
-one-hypot a b = one-answer (hypotOf a b)
+pub one3 : {A B C R : Type 0} (f : A → B → C → R) → One3 f
+one3 f = record { one = λ a. one2 (f a) }
+
+pub one4 : {A B C D R : Type 0} (f : A → B → C → D → R) → One4 f
+one4 f = record { one = λ a. one3 (f a) }
+
+pub one5 : {A B C D E R : Type 0} (f : A → B → C → D → E → R) → One5 f
+one5 f = record { one = λ a. one4 (f a) }
+
+pub one6 : {A B C D E F R : Type 0} (f : A → B → C → D → E → F → R) → One6 f
+one6 f = record { one = λ a. one5 (f a) }
+
+pub of-num : One1 absOf × One1 isFinite × One2 maxOf × One2 minOf × One3 clampOf × One2 powiOf × One1 sumOf × One2 _&&_ × One0 infinity· × One0 nan
+of-num = (one1 _, one1 _, one2 _, one2 _, one3 _, one2 _, one1 _, one2 _, one0 _, one0 _)
+
+-- the root's statement by squares has a theorem of its own, `one-root`
+pub of-elementary : One1 sqrtOf × One1 expRow × One1 logRow × One1 erfcRow × One1 expOf × One2 expLow × One1 logOf × One2 logParts × One1 erfcOf × One1 erfcPos × One1 lgammaOf × One1 cosOf × One2 hypotOf
+of-elementary = (one1 _, one1 _, one1 _, one1 _, one1 _, one2 _, one1 _, one2 _, one1 _, one1 _, one1 _, one1 _, one2 _)
+
+pub of-work : One1 isRefused × One1 numberOf × One1 reasonOf × One1 status.numberOf
+of-work = (one1 _, one1 _, one1 _, one1 _)
+
+pub of-normal : One1 logPhi × One1 normalOf × One2 millsOf × One3 conditionalOf × One2 _-_ × One0 legendreOf
+of-normal = (one1 _, one1 _, one2 _, one3 _, one2 _, one0 _)
+
+-- `at_both` gives a field at a time
+pub of-twins : (a b : LogMills) (r s : Twins) → (r .low ≡ a) × (r .high ≡ b) → (s .low ≡ a) × (s .high ≡ b) → r ≡ s
+of-twins a b r s e f = rw (e .0, e .1, f .0, f .1)
+
+pub of-posterior : One5 integrandOf × One2 atOf × One1 firstOf × One2 risesOf × One2 steepOf × One3 outwardOf × One2 flatOf × One1 endsOf × One3 checkedOf × One3 modeOf × One5 tailBoundOf × One2 rangeOf × One4 goalOf
+of-posterior = (one5 _, one2 _, one1 _, one2 _, one2 _, one3 _, one2 _, one1 _, one3 _, one3 _, one5 _, one2 _, one4 _)
+
+pub of-row : One2 coefficientOf × One1 locatedOf × One4 limitsOf × One3 integralOf × ((litter : ℕ) → One6 (rowOf litter))
+of-row = (one2 _, one1 _, one4 _, one3 _, λ litter. one6 (rowOf litter))
+
+pub of-objective : One1 validLitters × One1 validPoint × One1 indexOf × One6 accumulatedOf × One4 limitedOf × One2 objectiveOf
+of-objective = (one1 _, one1 _, one1 _, one6 _, one4 _, one2 _)
+
+pub of-summary : One2 extremeOf × One0 noCounts × One2 plusOf × One4 litterCountsOf × One2 countsOf × One1 summaryOf
+of-summary = (one2 _, one0 _, one2 _, one4 _, one2 _, one1 _)
+
+pub of-request : One2 upTo × One2 admits × One1 startOf × One1 lowOf × One1 highOf
+of-request = (one2 _, one2 _, one1 _, one1 _, one1 _)
+
+pub of-step : One4 projectOf × One1 normOf × One2 _||_ × One5 directionOf × One5 candidateOf × One3 slopeOf × One2 stillOf
+of-step = (one4 _, one1 _, one2 _, one5 _, one5 _, one3 _, one2 _)
+
+-- `search` answers so whatever trials were before
+pub of-search : One1 totalsIn × One4 normAt × ((definition : List Trial → Attempt) (r s : Attempt) → ((ts : List Trial) → r ≡ definition ts) → ((ts : List Trial) → s ≡ definition ts) → r ≡ s)
+of-search = (one1 _, one4 _, λ definition r s e f. one-answer (definition []) r s (e []) (f []))
+
+pub of-fit : One2 refusalOf × One6 descentOf × One2 fitOf
+of-fit = (one2 _, one6 _, one2 _)

@@ -17,7 +17,7 @@ use Rattle.elementary.specs.Log.{logOf, logSmall, logParts}
 use Rattle.elementary.specs.Erfc.{erfcOf, erfcPos, erfcTail}
 use Rattle.elementary.specs.Lgamma.{lgammaOf, lgammaBelowOne, lgammaByProduct, productOf, productFrom}
 use Rattle.objective.specs.Litters.{validLitter}
-use Rattle.fit.specs.Request.{validSd}
+use Rattle.request.specs.Request.{validSd}
 
 -- x has these bits; a NaN's are 7ff8000000000000
 unfoldable is : Float → ℕ → Bool

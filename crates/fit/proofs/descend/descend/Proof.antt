@@ -12,17 +12,17 @@ use Rattle.fit.proofs.descend.descend.Statement.{statement}
 use Rattle.fit.proofs.descend.descend.Tie as tie
 
 abbrev Inv-loop : tie.InvT-loop
-Inv-loop litters rule p before lo hi x₀ v₀ e₀ used₀ k₀ k-end x v e used k = (used ≤ p .limit .0) × (k-end ≡ p .turns .0) × (k ≤ p .turns .0) × Left rule litters p (descentOf rule litters p x₀ v₀ before) (p .turns .0 - k) x v e k used
+Inv-loop litters rule p lo hi most x₀ v₀ e₀ used₀ k₀ k-end x v e used k = (used .0 ≤ p .limit .0) × (k-end ≡ p .turns .0) × (k ≤ p .turns .0) × Left rule litters p (descentOf rule litters p x₀ v₀ (used₀ .0)) (p .turns .0 - k) x v (e .0) k (used .0)
 
 abbrev μ-loop : tie.MeasureT-loop
-μ-loop litters rule p before lo hi x₀ v₀ e₀ used₀ k₀ k-end x v e used k = k-end - k
+μ-loop litters rule p lo hi most x₀ v₀ e₀ used₀ k₀ k-end x v e used k = k-end - k
 
 loop-holds : tie.Need-loop-holds Inv-loop μ-loop
-loop-holds c = (c .before .before .before .pre .0, refl, zero-le, rw (sub-zero (c .before .before .before .args .p .turns .0)) (begins _ _ _ _ _ _))
+loop-holds c = (c .before .before .before .before .pre .0, refl, zero-le, rw (sub-zero (c .before .before .before .before .args .p .turns .0)) (begins _ _ _ _ _ _))
 
 returns : tie.Need-returns Inv-loop μ-loop
 returns c =
-    let m = c .before .before .before in
+    let m = c .before .before .before .before .before in
     let l = m .before in
     let i = l .before .loop .inv in
     let below = l .loop-test .taken in
@@ -30,24 +30,24 @@ returns c =
 
 returns-2 : tie.Need-returns-2 Inv-loop μ-loop
 returns-2 c =
-    let t = c .before .before .before in
-    let m = t .before .before in
+    let t = c .before .before in
+    let m = t .before .before .before .before in
     let l = m .before in
     let i = l .before .loop .inv in
     let below = l .loop-test .taken in
     descend-spent _ _ _ _ _ _ _ _ _ _ (i .3) _ (m .norm-at .ensures) _ (omega arith) (t .if1 .left) (c .before .if2 .taken) (c .stopped2 .ensures)
 
 search-requires : tie.Need-search-requires Inv-loop μ-loop
-search-requires c κs = let l = c .before .before .before .before .before .before .before in let s = l .before .before .before .before in (l .loop .inv .0, s .pre .1, s .pre .2)
+search-requires c κs = let l = c .before .before .before .before .before .before .before .before in let s = l .before .before .before .before .before in (l .loop .inv .0, s .pre .1, s .pre .2)
 
 returns-3 : tie.Need-returns-3 Inv-loop μ-loop
 returns-3 c =
     let r = c .before .before in
-    let s = r .before in
+    let s = r .before .before in
     let d = s .before in
     let g = d .before in
-    let t = g .before .before in
-    let m = t .before .before in
+    let t = g .before in
+    let m = t .before .before .before .before in
     let l = m .before in
     let i = l .before .loop .inv in
     let below = l .loop-test .taken in
@@ -57,13 +57,13 @@ returns-4 : tie.Need-returns-4 Inv-loop μ-loop
 returns-4 c =
     let a = c .before in
     let q = a .before in
-    let e = q .before .before in
+    let e = q .before .before .before in
     let r = e .before in
-    let s = r .before in
+    let s = r .before .before in
     let d = s .before in
     let g = d .before in
-    let t = g .before .before in
-    let m = t .before .before in
+    let t = g .before in
+    let m = t .before .before .before .before in
     let l = m .before in
     let i = l .before .loop .inv in
     let below = l .loop-test .taken in
@@ -72,13 +72,13 @@ returns-4 c =
 loop-again : tie.Need-loop-again Inv-loop μ-loop
 loop-again c =
     let q = c .before .before in
-    let e = q .before .before in
+    let e = q .before .before .before in
     let r = e .before in
-    let s = r .before in
+    let s = r .before .before in
     let d = s .before in
     let g = d .before in
-    let t = g .before .before in
-    let m = t .before .before in
+    let t = g .before in
+    let m = t .before .before .before .before in
     let l = m .before in
     let i = l .before .loop .inv in
     let below = l .loop-test .taken in
@@ -95,10 +95,10 @@ returns-5 c =
 
 add-k : tie.Need-add-k Inv-loop μ-loop
 add-k c =
-    let l = c .before .before .before .before .before .before .before .before .before .before .before .before .before in
+    let l = c .before .before .before .before .before .before .before .before .before .before .before .before .before .before .before .before in
     let i = l .before .loop .inv in
     let below = l .loop-test .taken in
-    omega (arith, l .before .before .before .before .before .pre .3)
+    omega (arith, l .before .before .before .before .before .before .pre .3)
 
 pub descend-spec : {M : Type 1} → statement M
 descend-spec =

@@ -14,6 +14,6 @@ last-spec =
     (λ c κs. search needs)
     (λ c. rw (← c .before .before .before .norm-at .ensures) (search choose))
     (λ c κs. search needs)
-    (λ c. rw (← c .before .before .before .before .before .norm-at .ensures) (search choose))
+    (λ c. rw (← c .before .before .before .before .before .before .norm-at .ensures) (search choose))
     (λ c κs. search needs)
-    (λ c. rw (← c .before .before .before .before .before .norm-at .ensures) (search choose)))
+    (λ c. rw (← c .before .before .before .before .before .before .norm-at .ensures) (search choose)))

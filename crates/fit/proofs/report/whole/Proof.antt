@@ -14,5 +14,5 @@ whole-spec =
     (λ c κs. search needs)
     (λ c. search (whole-stops, choose))
     (λ c κs. search needs)
-    (λ c κs. let s = c .before .before .before .before .before .before in (start-within _ _ (s .args .p) _ _ (c .before .before .before .limited-objective .ensures .0), s .pre .0, s .pre .1, s .pre .2))
+    (λ c κs. let s = c .before .before .before .before .before .before .before in (start-within _ _ (s .args .p) _ _ (c .before .before .before .before .limited-objective .ensures .0), s .pre .0, s .pre .1, s .pre .2))
     (λ c. search (whole-goes, choose) fits 8000 depth 8))

@@ -1,0 +1,38 @@
+-- `write::put` meets its contract: what stands written, with what the rest of the form becomes, is the whole.
+use mathlib.Core.Path.{_≡_}
+use Prim.Native.Nat.{_+_, _-_, _≤_}
+use native.Mathlib.Omega.{arith}
+use borrow.Author.Needs.{needs}
+use lib.ListN.{length, drop}
+use Rattle.form.specs.Form.{render}
+use Rattle.form.specs.Written.{written}
+use Rattle.form.specs.Width.{width}
+use Rattle.form.proofs.WriteLaws.{rest, same-written, put-text, put-length, put-room, put-fits, put-ends, put-done, taken-few, kept}
+use Rattle.form.proofs.write.put.Statement.{statement}
+use Rattle.form.proofs.write.put.Tie as tie
+
+abbrev Inv-loop : tie.InvT-loop
+Inv-loop form values out₀ at next₀ taken₀ i₀ i-end out next taken i =
+    (written out next (rest form values i taken) ≡ written out₀ at (render form values)) ×
+    (next + length (rest form values i taken) ≡ at + length (render form values)) ×
+    (length out ≡ length out₀) × (next + width (drop i form) ≤ length out₀) × (taken ≤ i) × (i ≤ length form)
+
+abbrev μ-loop : tie.MeasureT-loop
+μ-loop form values out₀ at next₀ taken₀ i₀ i-end out next taken i = length form - i
+
+pub put-spec : {M : Type 1} → statement M
+put-spec =
+    tie.close
+    (tie.spec
+    Inv-loop
+    μ-loop
+    (λ c. search needs)
+    (λ c. search needs)
+    (λ c κs. search needs)
+    (λ c κs. search put-fits)
+    (λ c κs. search needs)
+    (λ c. search needs)
+    (λ c. search needs)
+    (λ c. (search put-text, search put-length, search (kept, same-written), search put-room, search taken-few, omega arith))
+    (λ c. search needs)
+    (λ c. search (put-ends, put-done)))

@@ -1,0 +1,15 @@
+-- `write::taken_after` meets its contract.
+use borrow.Author.Needs.{needs}
+use Rattle.form.proofs.WriteLaws.{taken-count, taken-bits, taken-none}
+use Rattle.form.proofs.write.taken_after.Statement.{statement}
+use Rattle.form.proofs.write.taken_after.Tie as tie
+
+pub taken-after-spec : {M : Type 1} → statement M
+taken-after-spec =
+    tie.close
+    (tie.spec
+    (λ c. search needs)
+    (λ c. search taken-count)
+    (λ c. search needs)
+    (λ c. search taken-bits)
+    (λ c. search taken-none))

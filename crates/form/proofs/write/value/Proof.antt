@@ -1,0 +1,14 @@
+-- `write::value` meets its contract: past the end it is 0.
+use borrow.Author.Needs.{needs}
+use Rattle.form.proofs.WriteLaws.{past-end}
+use Rattle.form.proofs.write.value.Statement.{statement}
+use Rattle.form.proofs.write.value.Tie as tie
+
+pub value-spec : {M : Type 1} → statement M
+value-spec =
+    tie.close
+    (tie.spec
+    (λ c. search needs)
+    (λ c. search needs)
+    (λ c. search needs)
+    (λ c. search past-end))

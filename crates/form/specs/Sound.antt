@@ -1,0 +1,43 @@
+-- Which forms can be read back, and which values a form takes.
+use mathlib.Core.Bool.{Bool, true, cond, _&&_, _||_, not}
+use mathlib.Core.List.{List, [], _∷_, _++_}
+use Prim.Native.Nat.{ℕ, _+_, _^_, _<_}
+use lib.Dec.{ltb}
+use Rattle.form.specs.Form.{first, isCount, isBits, isHole}
+use Rattle.form.specs.Read.{isDigit}
+
+-- a byte at which a count before it is seen to end: one that stands for itself and is no digit
+abbrev pub endsCount : ℕ → Bool
+endsCount c = ltb 0 c && not (isDigit c) && not (isHole c)
+
+-- The byte after each `#` ends its count. (`first []` is 0, so no form ends in `#`.)
+unfoldable pub sound : List ℕ → Bool
+sound [] = true
+sound (c ∷ f) = (not (isCount c) || endsCount (first f)) && sound f
+
+-- what each value must be below, in the holes' order: a count 2^32, the bits of an f64 2^64
+abbrev pub limitOf : ℕ → List ℕ
+limitOf c = cond (isCount c) (2 ^ 32 ∷ []) (cond (isBits c) (2 ^ 64 ∷ []) [])
+
+unfoldable pub limits : List ℕ → List ℕ
+limits [] = []
+limits (c ∷ f) = limitOf c ++ limits f
+
+-- one value for each limit, in order, and none over
+abbrev pub Below : List ℕ → List ℕ → Type 0
+Below [] [] = Unit
+Below [] (v ∷ vs) = ⊥
+Below (l ∷ ls) [] = ⊥
+Below (l ∷ ls) (v ∷ vs) = (v < l) × Below ls vs
+
+-- vs are values for the form f
+abbrev pub Holds : List ℕ → List ℕ → Type 0
+Holds f vs = Below (limits f) vs
+
+-- a form's rendering has at most so many bytes
+abbrev pub mostOf : ℕ → ℕ
+mostOf c = cond (isCount c) 10 (cond (isBits c) 16 1)
+
+unfoldable pub most : List ℕ → ℕ
+most [] = 0
+most (c ∷ f) = mostOf c + most f

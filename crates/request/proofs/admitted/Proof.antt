@@ -1,0 +1,19 @@
+-- `request::admitted` meets its contract, by what its callees ensure.
+use Rattle.request.specs.Request.{admits}
+use borrow.Author.Needs.{needs}
+use Rattle.request.proofs.admitted.Statement.{statement}
+use Rattle.request.proofs.admitted.Tie as tie
+
+pub admitted-spec : {M : Type 1} → statement M
+unfolding admits
+admitted-spec =
+    tie.close
+    (tie.spec
+    (λ c κs. search needs)
+    (λ c κs. search needs)
+    (λ c κs. search needs)
+    (λ c κs. search needs)
+    (λ c κs. search needs)
+    (λ c κs. search needs)
+    (λ c κs. search needs)
+    (λ c. cc))

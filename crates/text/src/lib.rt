@@ -1,0 +1,4 @@
+// A request's text read, and its answer printed.
+pub mod answer;
+pub mod print;
+pub mod read;
