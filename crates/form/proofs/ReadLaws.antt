@@ -1,8 +1,8 @@
 -- A turn of the reading by a form: the byte of the form, what it found, and the values so far.
-use mathlib.Core.Path.{_≡_, refl, sym, subst, _∙_, ap}
+use mathlib.Core.Path.{_≡_, refl, sym, subst, _∙_}
 use mathlib.Core.Bool.{Bool, true, false, cond}
 use mathlib.Core.List.{List, [], _∷_, _++_, append-assoc, append-nil}
-use Prim.Native.Nat.{ℕ, suc, _+_, _-_, _≤_, _<_}
+use Prim.Native.Nat.{ℕ, _+_, _≤_, _<_}
 use native.Mathlib.Omega.{arith}
 use native.Mathlib.Nat.{add-zero, add-assoc}
 use native.Mathlib.Numerals.{add-one}
@@ -15,15 +15,12 @@ use Rattle.form.specs.declared.token.Token.the-variants.{Value, Departs}
 use Rattle.form.specs.Form.{isHole, holes}
 use Rattle.form.specs.Read.{Field, found, departs, readField, Reading, done, departsAt, kept, valueOf, lineAfter, read}
 use Rattle.form.specs.Says.{Says}
+use Rattle.form.specs.Departure.{kept-kept}
 use Rattle.form.proofs.TokenLaws.{inside, past}
 
 pub kept-none : (r : Reading) → kept [] r ≡ r
 kept-none (done vs t) = refl
 kept-none (departsAt line) = refl
-
-kept-kept : (us ws : List ℕ) (r : Reading) → kept us (kept ws r) ≡ kept (us ++ ws) r
-kept-kept us ws (done vs t) = rw append-assoc
-kept-kept us ws (departsAt line) = refl
 
 -- what a token that the code has in hand says
 pub says-value : (l : List ℕ) (t : Token) (v next : ℕ) (f : Field) → t ≡ Value v next → Says l t f → (f ≡ found v (drop next l)) × (next ≤ length l)

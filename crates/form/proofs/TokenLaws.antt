@@ -1,16 +1,15 @@
 -- What stands at a place of a text, by the byte there: the steps of each reading.
-use mathlib.Core.Path.{_≡_, refl, sym, subst, _∙_, ap}
+use mathlib.Core.Path.{_≡_, refl, sym, subst, _∙_}
 use mathlib.Core.Bool.{Bool, true, false, cond, _&&_, _||_, not}
 use mathlib.Core.List.{List, [], _∷_}
 use Prim.Native.Nat.{ℕ, suc, _+_, _-_, _*_, _^_, _≤_, _<_}
 use native.Mathlib.Omega.{arith}
 use native.Mathlib.Numerals.{add-one}
 use native.Mathlib.Nat.{pow-suc, pow-le-pow-right, lt-of-lt-of-le}
-use lib.Dec.{T, eqb, ltb, leb, lit<}
+use lib.Dec.{T, leb, lit<}
 use lib.ListN.{length, getD, drop, drop-of-length-le}
 use lib.Seq.{drop-cons}
 use borrow.Author.Tests.{eq-eqb, ne-eqb, lt-ltb, le-ltb, le-leb, lt-leb, leb-true, not-true, not-false}
-use Rattle.form.specs.Form.{first, after}
 use Rattle.form.specs.Read.{isDigit, isHex, hexValue, found, departs, readHex, readMore, readCount, readByte, readField}
 
 module _ (l : List ℕ) (i : ℕ) where

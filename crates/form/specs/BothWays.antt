@@ -8,11 +8,11 @@ use native.Mathlib.Nat.{div-eq-of-lt, add-le-add, le-of-eq, le-of-suc-le-suc, no
 use native.Mathlib.Omega.{arith}
 use borrow.Author.Tests.{eqb-true, eq-eqb}
 use borrow.Table.Steps.{cases}
-use lib.Dec.{T, ltb, eqb, ltb→lt, lit≤}
+use lib.Dec.{T, ltb, eqb, lit≤}
 use lib.Ieee.Fits.{and-l, and-r}
 use lib.ListN.{length, length-append, getD}
 use Rattle.form.specs.Digits.{places, hex}
-use Rattle.form.specs.Form.{first, after, isCount, isBits, isHole, piece, left, render, holes}
+use Rattle.form.specs.Form.{first, isCount, isBits, isHole, piece, valuesAfter, render, holes}
 use Rattle.form.specs.Read.{isDigit, Field, found, departs, readHex, readByte, readField, Reading, done, departsAt, kept, valueOf, lineAfter, readNext, read}
 use Rattle.form.specs.Sound.{endsCount, sound, limitOf, limits, Below, Holds, mostOf, most}
 use Rattle.form.specs.DigitLaws.{not-found, hex-read-back, hex-read-is, digits-many, places-least, decimal-most, count-read-back, count-read-is}
@@ -37,7 +37,7 @@ not-done k vs t e = let z : _≡_ {A = ℕ} 0 1 = cc in omega arith
 
 pub record ReadIs (c : ℕ) (s : List ℕ) (v : ℕ) (t us : List ℕ) : Type 0 where
   pub text : s ≡ piece c (valueOf c v ++ us) ++ t
-  pub rest : left c (valueOf c v ++ us) ≡ us
+  pub rest : valuesAfter c (valueOf c v ++ us) ≡ us
   pub fits : (ls : List ℕ) → Below ls us → Below (limitOf c ++ ls) (valueOf c v ++ us)
 
 byte-read-is : (c : ℕ) (s : List ℕ) (v : ℕ) (t : List ℕ) → readByte c s ≡ found v t → s ≡ c ∷ t
@@ -106,8 +106,8 @@ rendered-read (c ∷ f) s vs t line h e =
 pub record ReadBack (c : ℕ) (vs t ls : List ℕ) : Type 0 where
   pub v : ℕ
   pub here : readField c (piece c vs ++ t) ≡ found v t
-  pub values : valueOf c v ++ left c vs ≡ vs
-  pub rest : Below ls (left c vs)
+  pub values : valueOf c v ++ valuesAfter c vs ≡ vs
+  pub rest : Below ls (valuesAfter c vs)
 
 pub field-read-back : {c : ℕ} → Kind c → (vs t ls : List ℕ) → Below (limitOf c ++ ls) vs → (isCount c ≡ true → isDigit (first t) ≡ false) → ReadBack c vs t ls
 unfolding readField readByte
@@ -147,9 +147,9 @@ read-rendered [] [] t line h b = refl
 read-rendered [] (v ∷ vs) t line h b = absurd b
 read-rendered (c ∷ f) vs t line h b =
     let p = sound-parts c f h in
-    let r = field-read-back (kind c) vs (render f (left c vs) ++ t) (limits f) b (no-digit c f (left c vs) t (p .ends)) in
-    let ih = read-rendered f (left c vs) t (lineAfter c line) (p .rest) (r .rest) in
-    rw (append-assoc (piece c vs) (render f (left c vs)) t, r .here, ih, r .values)
+    let r = field-read-back (kind c) vs (render f (valuesAfter c vs) ++ t) (limits f) b (no-digit c f (valuesAfter c vs) t (p .ends)) in
+    let ih = read-rendered f (valuesAfter c vs) t (lineAfter c line) (p .rest) (r .rest) in
+    rw (append-assoc (piece c vs) (render f (valuesAfter c vs)) t, r .here, ih, r .values)
 
 -- where the reading departs, no rendering of the form stands
 pub not-there : (f s vs t : List ℕ) (line k : ℕ) → T (sound f) → read f line s ≡ departsAt k → Holds f vs → s ≢ render f vs ++ t
@@ -193,7 +193,7 @@ read-below f s vs t line i h e b = holds-below f vs i (rendered-read f s vs t li
 
 -- ---- how long a rendering is
 
-piece-most : {c : ℕ} → Kind c → (vs ls : List ℕ) → Below (limitOf c ++ ls) vs → (length (piece c vs) ≤ mostOf c) × Below ls (left c vs)
+piece-most : {c : ℕ} → Kind c → (vs ls : List ℕ) → Below (limitOf c ++ ls) vs → (length (piece c vs) ≤ mostOf c) × Below ls (valuesAfter c vs)
 piece-most count [] ls b = absurd b
 piece-most count (v ∷ vs) ls b = (decimal-most v (b .0), b .1)
 piece-most bits [] ls b = absurd b
@@ -205,7 +205,7 @@ unfolding render most limits
 render-most [] vs b = lit≤ tt
 render-most (c ∷ f) vs b =
     let p = piece-most (kind c) vs (limits f) b in
-    rw (length-append (piece c vs) (render f (left c vs))) (add-le-add (p .0) (render-most f (left c vs) (p .1)))
+    rw (length-append (piece c vs) (render f (valuesAfter c vs))) (add-le-add (p .0) (render-most f (valuesAfter c vs) (p .1)))
 
 piece-least : {c : ℕ} → Kind c → (vs : List ℕ) → 1 ≤ length (piece c vs)
 piece-least count vs = rw (digits-many 10 (places (first vs)) (first vs)) (places-least 19 (first vs))
@@ -216,4 +216,4 @@ piece-least (itself p q) vs = rw (p, q) (lit≤ tt)
 pub render-least : (f vs : List ℕ) → length f ≤ length (render f vs)
 unfolding render
 render-least [] vs = lit≤ tt
-render-least (c ∷ f) vs = rw (length-append (piece c vs) (render f (left c vs))) (omega (arith, piece-least (kind c) vs, render-least f (left c vs)))
+render-least (c ∷ f) vs = rw (length-append (piece c vs) (render f (valuesAfter c vs))) (omega (arith, piece-least (kind c) vs, render-least f (valuesAfter c vs)))

@@ -1,15 +1,15 @@
 -- The line at which a text departs from a form: the form's lines before it stand in the text, and the form's line does not.
 use mathlib.Core.Path.{_≡_, refl, sym, ap, _∙_}
 use mathlib.Core.Logic.{_≢_}
-use mathlib.Core.Bool.{cond, _&&_, _||_, not}
+use mathlib.Core.Bool.{cond, _||_, not}
 use mathlib.Core.List.{List, [], _∷_, _++_, append-assoc, append-nil}
 use Prim.Native.Nat.{ℕ, zero, suc, _+_, _≤_}
 use native.Mathlib.Nat.{le-refl}
 use native.Mathlib.Omega.{arith}
 use borrow.Author.Tests.{eqb-true}
 use borrow.Table.Steps.{cases}
-use lib.Dec.{T, ltb, eqb, lit≤}
-use lib.Ieee.Fits.{and-i, and-l}
+use lib.Dec.{T, eqb, lit≤}
+use lib.Ieee.Fits.{and-i}
 use lib.ListN.{length}
 use Rattle.form.specs.Form.{first, isCount, render}
 use Rattle.form.specs.Read.{Field, found, departs, readField, Reading, done, departsAt, kept, valueOf, lineAfter, readNext, read}
@@ -41,7 +41,7 @@ abbrev pub goOn : Reading → (List ℕ → Reading) → Reading
 goOn (departsAt k) go = departsAt k
 goOn (done vs t) go = kept vs (go t)
 
-kept-kept : (us vs : List ℕ) (r : Reading) → kept us (kept vs r) ≡ kept (us ++ vs) r
+pub kept-kept : (us vs : List ℕ) (r : Reading) → kept us (kept vs r) ≡ kept (us ++ vs) r
 kept-kept us vs (done ws t) = rw (append-assoc us vs ws)
 kept-kept us vs (departsAt k) = refl
 

@@ -1,10 +1,10 @@
 -- A form: a text in which each `#` stands for a count and each `%` for the 64 bits of an f64. Rendering puts values there.
-use mathlib.Core.Bool.{Bool, true, false, cond, _&&_, _||_, not}
+use mathlib.Core.Bool.{Bool, cond, _||_}
 use mathlib.Core.List.{List, [], _∷_, _++_}
-use Prim.Native.Nat.{ℕ, zero, suc, _+_, _^_}
+use Prim.Native.Nat.{ℕ, _+_}
 use Prim.Native.Char.{code}
 use Prim.Native.String.{String, [] as none, _∷_ as _then_}
-use lib.Dec.{leb, ltb, eqb}
+use lib.Dec.{eqb}
 use Rattle.form.specs.Digits.{decimal, hex}
 
 -- the codes of a text's characters
@@ -30,16 +30,16 @@ isBits c = eqb c 37
 abbrev pub isHole : ℕ → Bool
 isHole c = isCount c || isBits c
 
--- what a byte of a form becomes, where vs are the values still to come; and the values after it
+-- what a byte of a form becomes, where vs are the values still to come; and those that come after it
 abbrev pub piece : ℕ → List ℕ → List ℕ
 piece c vs = cond (isCount c) (decimal (first vs)) (cond (isBits c) (hex (first vs)) (c ∷ []))
 
-abbrev pub left : ℕ → List ℕ → List ℕ
-left c vs = cond (isHole c) (after vs) vs
+abbrev pub valuesAfter : ℕ → List ℕ → List ℕ
+valuesAfter c vs = cond (isHole c) (after vs) vs
 
 unfoldable pub render : List ℕ → List ℕ → List ℕ
 render [] vs = []
-render (c ∷ f) vs = piece c vs ++ render f (left c vs)
+render (c ∷ f) vs = piece c vs ++ render f (valuesAfter c vs)
 
 -- how many values a form takes
 unfoldable pub holes : List ℕ → ℕ

@@ -7,7 +7,7 @@ use native.Mathlib.Omega.{arith}
 use lib.Dec.{ltb}
 use lib.ListN.{length, length-append}
 use Rattle.form.specs.Digits.{digits, placesFrom}
-use Rattle.form.specs.Form.{isCount, isBits, isHole, piece, left, render, first}
+use Rattle.form.specs.Form.{isCount, isBits, isHole, piece, valuesAfter, render, first}
 
 -- a count has at most twenty digits, an f64's bits have sixteen
 abbrev pub widest : ℕ → ℕ
@@ -49,5 +49,5 @@ unfolding render width
 length-render [] vs = zero-le
 length-render (c ∷ f) vs =
     let h = length-piece c vs in
-    let g = length-render f (left c vs) in
+    let g = length-render f (valuesAfter c vs) in
     rw length-append (omega arith)

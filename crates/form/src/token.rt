@@ -1,5 +1,4 @@
 // What stands at a place of a text: a hexadecimal number, a count, or one byte.
-ghost use mathlib.Core.Path.{_≡_};
 ghost use Prim.Native.Nat.{_^_, _≤_, _<_};
 ghost use lib.ListN.{length, drop};
 ghost use Rattle.form.specs.Read.{readHex, readMore, readCount, readByte, readField};

@@ -36,10 +36,7 @@ fn request_at(list: &[u8], at: usize) -> Part {
     if list.len() < at {
         return Part::Missing;
     }
-    part_of(
-        list.len(),
-        form::read::read(list, at, b"request #\n", 1),
-    )
+    part_of(list.len(), form::read::read(list, at, b"request #\n", 1))
 }
 
 fn answer_at(list: &[u8], at: usize) -> Part {

@@ -2,13 +2,12 @@
 use mathlib.Core.Path.{_≡_, refl, sym, subst, _∙_, ap}
 use mathlib.Core.Bool.{Bool, true, false, cond, _&&_, not}
 use mathlib.Core.List.{List, [], _∷_, _++_, append-assoc, append-nil}
-use Prim.Native.Nat.{ℕ, zero, suc, _+_, _-_, _*_, _/_, _%_, _^_, _≤_, _<_}
+use Prim.Native.Nat.{ℕ, suc, _+_, _*_, _%_, _^_, _≤_, _<_}
 use native.Mathlib.Omega.{arith}
-use native.Mathlib.Numerals.{add-one}
-use lib.Dec.{T, eqb, ltb, leb, lit<}
+use lib.Dec.{T, eqb, ltb, leb}
 use lib.ListN.{length, getD, set, take, length-set}
 use lib.Seq.{take-suc-set}
-use lib.Ieee.{Float, nan, inf, fin, binary64, isNan, nanBits, ofBits}
+use lib.Ieee.{Float, nan, inf, fin, binary64, isNan, nanBits}
 use lib.Ieee.Bits.{nanBits-is, nanBits-above}
 use borrow.Author.Tests.{lt-ltb, le-ltb, lt-leb, not-true, not-false}
 use Rattle.num.specs.F64.{bits}
@@ -20,7 +19,7 @@ use Rattle.request.specs.Request.{validBoxes, validControls, validLimit, twoEac
 use Rattle.fit.specs.Fit.{fit, limitedFit, refusedOf, fitOf}
 use Rattle.text.specs.declared.read.Asking.{Asking}
 use Rattle.text.specs.Request.{Asked, asked, form, readRequest}
-use Rattle.text.specs.Rows.{Kept, kept, departs, putLitter, putLitters, keptOf, requestSays}
+use Rattle.text.specs.Rows.{putLitter, putLitters, keptOf, requestSays}
 use Rattle.text.specs.Answer.{requestOf, littersOf, refusalText, fitText, answerTo, answerText}
 
 -- ---- a number of its bits

@@ -1,21 +1,21 @@
 -- What the last line and each litter line decide.
-use mathlib.Core.Path.{_≡_, refl, sym, subst, _∙_, ap}
-use mathlib.Core.Bool.{Bool, true, false, cond, not}
-use mathlib.Core.List.{List, [], _∷_, _++_}
-use Prim.Native.Nat.{ℕ, zero, suc, _+_, _-_, _*_, _^_, _≤_, _<_}
+use mathlib.Core.Path.{_≡_, refl, subst, _∙_}
+use mathlib.Core.Bool.{true, false, not}
+use mathlib.Core.List.{List, [], _∷_}
+use Prim.Native.Nat.{ℕ, suc, _+_, _-_, _*_, _^_, _≤_, _<_}
 use native.Mathlib.Omega.{arith}
 use native.Mathlib.Nat.{add-zero}
-use lib.Dec.{T, eqb, ltb, lit<}
+use lib.Dec.{lit<}
 use lib.ListN.{length, getD, set, take, drop, drop-of-length-le, length-drop}
 use lib.Seq.{drop-cons, getD-take, take-all}
 use borrow.Author.Tests.{eq-eqb, ne-eqb, lt-ltb, le-ltb, not-true, not-false}
 use Rattle.num.specs.Left.{left-one, left-none}
-use Rattle.form.specs.Form.{first, after, holes}
-use Rattle.form.specs.Read.{Reading, done, departsAt, read}
+use Rattle.form.specs.Form.{first, after}
+use Rattle.form.specs.Read.{Reading, done, read}
 use Rattle.form.specs.declared.read.Values.{Values}
 use Rattle.form.specs.Says.{saidOf}
-use Rattle.form.specs.Sound.{sound, limits}
-use Rattle.form.specs.BothWays.{read-below}
+use Rattle.form.specs.BothWays.{rendered-read}
+use Rattle.text.specs.BothWays.{litter-sound, litter-below}
 use Rattle.text.specs.declared.read.Lines.{Lines}
 use Rattle.text.specs.declared.read.Lines.the-variants.{Litters, Departs}
 use Rattle.text.specs.Request.{Asked, asked, form, isEmpty, head, litter, rows, withLitter, readLast, readRows, readRequest}
@@ -81,22 +81,19 @@ module _ (text : List ℕ) (at n : ℕ) (r : Values) (said : read litter (8 + n)
     read-litter = rw (not-false (r .fits) f) at said
 
     -- a litter's numbers fit the buffer's
-    small : (i : ℕ) → i < 3 → getD (take 3 (r .values)) i 0 < getD (limits litter) i 0
-    unfolding sound litter holes
-    small i h = read-below litter (drop at text) (take 3 (r .values)) (drop (r .at) text) (8 + n) i tt read-litter h
-
     pub litter-small : (getD (r .values) 0 0 < 2 ^ 32) × (getD (r .values) 1 0 < 2 ^ 32) × (getD (r .values) 2 0 < 2 ^ 32)
-    unfolding litter limits
     litter-small =
-        (rw (getD-take 3 (r .values) 0 0 (lit< tt)) at (small 0 (lit< tt)), rw (getD-take 3 (r .values) 1 0 (lit< tt)) at (small 1 (lit< tt)), rw (getD-take 3 (r .values) 2 0 (lit< tt)) at (small 2 (lit< tt)))
+        let v = r .values in
+        let b = litter-below (take 3 v) (rendered-read litter (drop at text) (take 3 v) (drop (r .at) text) (8 + n) litter-sound read-litter .1) in
+        (rw (getD-take 3 v 0 0 (lit< tt)) at (b .0), rw (getD-take 3 v 1 0 (lit< tt)) at (b .1), rw (getD-take 3 v 2 0 (lit< tt)) at (b .2))
 
     pub row-kept : (vs b : List ℕ) (start : ℕ) → n < 8192 → keptOf b n (readRows (8192 - n) vs start n (drop at text)) ≡ keptOf (putLitter b n (r .values)) (n + 1) (readRows (8192 - (n + 1)) vs start (n + 1) (drop (r .at) text))
     unfolding readRows
     row-kept vs b start h = rw (left-one 8192 n h, read-litter) (kept-litter b (take 3 (r .values)) n (readRows (8192 - (n + 1)) vs start (n + 1) (drop (r .at) text)) ∙ rw (put-taken b (r .values) n))
 
-  pub row-last : not (r .fits) ≡ true → (vs b : List ℕ) (start : ℕ) → n < 8192 → readRows (8192 - n) vs start n (drop at text) ≡ readLast vs (8 + n) start n (read rows (8 + n) (drop at text))
+  pub row-last : not (r .fits) ≡ true → (vs : List ℕ) (start : ℕ) → n < 8192 → readRows (8192 - n) vs start n (drop at text) ≡ readLast vs (8 + n) start n (read rows (8 + n) (drop at text))
   unfolding readRows
-  row-last f vs b start h = rw (left-one 8192 n h, said, not-true (r .fits) f)
+  row-last f vs start h = rw (left-one 8192 n h, said, not-true (r .fits) f)
 
 pub rows-end : (vs b s : List ℕ) (start n : ℕ) → 8192 ≤ n → keptOf b n (readRows (8192 - n) vs start n s) ≡ departs (8 + n)
 unfolding readRows

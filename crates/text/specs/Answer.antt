@@ -1,11 +1,10 @@
 -- An answer's text, and the whole program: a request's bytes to an answer's bytes.
-use mathlib.Core.Bool.{Bool, true, false, cond, _||_}
+use mathlib.Core.Bool.{Bool, false, cond, _||_}
 use mathlib.Core.List.{List, [], _∷_, _++_}
 use Prim.Native.Nat.{ℕ}
 use lib.ListN.{getD}
 use lib.Ieee.{Float, nan}
 use Rattle.num.specs.F64.{bits, bitsOf}
-use Rattle.work.specs.declared.Ending.{Ending}
 use Rattle.work.specs.Ended.{isRefused, numberOf, reasonOf}
 use Rattle.descent.specs.declared.Status.{Status}
 use Rattle.descent.specs.declared.Status.the-variants.{NoStatus, Converged, EvaluationLimit, IterationLimit, LineSearchFailed}

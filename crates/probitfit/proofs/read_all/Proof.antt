@@ -2,7 +2,6 @@
 use mathlib.Core.Path.{_≡_}
 use Prim.Native.Nat.{_-_}
 use lib.ListN.{length}
-use native.Mathlib.Omega.{arith}
 use borrow.Author.Needs.{needs}
 use Rattle.probitfit.proofs.read_all.Statement.{statement}
 use Rattle.probitfit.proofs.read_all.Tie as tie

@@ -1,6 +1,5 @@
 -- `is_same` stays inside both.
 use Prim.Native.Nat.{_-_}
-use native.Mathlib.Omega.{arith}
 use borrow.Author.Needs.{needs}
 use Rattle.replay.proofs.is_same.Statement.{statement}
 use Rattle.replay.proofs.is_same.Tie as tie

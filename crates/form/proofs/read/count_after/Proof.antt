@@ -1,5 +1,4 @@
 -- `read::count_after` meets its contract.
-use mathlib.Core.Path.{_≡_}
 use native.Mathlib.Nat.{add-zero}
 use borrow.Author.Needs.{needs}
 use Rattle.form.proofs.read.count_after.Statement.{statement}

@@ -1,14 +1,11 @@
 -- `read::read` meets its contract, as the rest of the form decides the whole; the values so far stand in front.
-use mathlib.Core.Path.{_≡_, refl, sym, _∙_}
-use mathlib.Core.Bool.{Bool, true, false, cond}
-use mathlib.Core.List.{List}
-use Prim.Native.Nat.{ℕ, suc, _+_, _-_, _≤_, _<_}
+use mathlib.Core.Path.{_≡_, refl}
+use Prim.Native.Nat.{_-_, _≤_, _<_}
 use native.Mathlib.Omega.{arith}
-use native.Mathlib.Nat.{zero-add, add-assoc}
+use native.Mathlib.Nat.{zero-add}
 use lib.ListN.{length, getD, take, drop}
 use Rattle.form.specs.Form.{holes}
-use Rattle.form.specs.Read.{Field, departs, readField, kept}
-use Rattle.form.specs.Read.{read as Read·read}
+use Rattle.form.specs.Read.{departs, readField}
 use borrow.Author.Needs.{needs}
 use Rattle.form.proofs.ReadLaws.{kept-none, says-value, says-departs, read-stops, read-ends, none-left, Left, left-again}
 use Rattle.form.proofs.read.read.Statement.{statement}

@@ -1,7 +1,5 @@
 -- `token::count_at` meets its contract.
-use mathlib.Core.Path.{_≡_, sym, _∙_}
 use native.Mathlib.Omega.{arith}
-use lib.ListN.{length, getD, drop}
 use borrow.Author.Needs.{needs}
 use Rattle.form.proofs.TokenLaws.{count-past, count-zero, count-refuses, count-goes}
 use Rattle.form.proofs.token.count_at.Statement.{statement}

@@ -1,5 +1,4 @@
 -- `token::token_at` meets its contract.
-use native.Mathlib.Omega.{arith}
 use borrow.Author.Needs.{needs}
 use Rattle.form.proofs.TokenLaws.{field-count, field-bits, field-byte}
 use Rattle.form.proofs.token.token_at.Statement.{statement}

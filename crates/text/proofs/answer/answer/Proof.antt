@@ -1,5 +1,5 @@
 -- `answer::answer` meets its contract: no room, a text without the form, too many litters, or the fit.
-use mathlib.Core.Path.{_≡_, refl, sym, ap, _∙_}
+use mathlib.Core.Path.{refl, sym}
 use Prim.Native.Nat.{zero-le}
 use native.Mathlib.Omega.{arith}
 use lib.Seq.{length-take-le}

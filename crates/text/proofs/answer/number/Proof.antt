@@ -1,5 +1,4 @@
 -- `answer::number` meets its contract.
-use mathlib.Core.Path.{sym, _∙_}
 use borrow.Author.Needs.{needs}
 use Rattle.text.proofs.AnswerLaws.{nan-bits, some-bits}
 use Rattle.text.proofs.answer.number.Statement.{statement}

@@ -1,5 +1,4 @@
 -- `read::last` meets its contract.
-use mathlib.Core.Path.{_≡_, refl, sym, _∙_}
 use native.Mathlib.Omega.{arith}
 use lib.Dec.{lit≤}
 use Rattle.form.specs.Form.{holes}

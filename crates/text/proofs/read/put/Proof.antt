@@ -1,5 +1,4 @@
 -- `read::put` meets its contract.
-use native.Mathlib.Omega.{arith}
 use borrow.Author.Needs.{needs}
 use Rattle.text.proofs.RowsLaws.{put-inside, put-past}
 use Rattle.text.proofs.read.put.Statement.{statement}

@@ -1,5 +1,5 @@
 -- `read::request` meets its contract: the size, the head, then the lines after it.
-use mathlib.Core.Path.{_≡_, refl, sym, ap, _∙_}
+use mathlib.Core.Path.{ap, _∙_}
 use native.Mathlib.Omega.{arith}
 use lib.Dec.{lit≤}
 use Rattle.form.specs.Form.{holes}

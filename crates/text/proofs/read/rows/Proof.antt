@@ -27,9 +27,7 @@ ended c vs =
     let r = t .before .before in
     let l = r .before .before .before .loop in
     let a = r .before .before .before .before .before .args in
-    c .last .ensures vs (l .litters) ∙
-    ap (keptOf (l .litters) (l .n)) (sym (row-last (a .text .now) (l .at) (l .n) (r .read .result) (r .read .ensures .0) (t .if1 .taken) vs (l .litters) (a .start) (omega arith))) ∙
-    l .inv .0 vs
+    c .last .ensures vs (l .litters) ∙ (rw (row-last (a .text .now) (l .at) (l .n) (r .read .result) (r .read .ensures .0) (t .if1 .taken) vs (a .start) (omega arith)) at (l .inv .0 vs))
 
 small : tie.Need-put-requires Inv-loop μ-loop
 unfolding litter holes
