@@ -9,7 +9,6 @@ use lib.Ieee.{Float}
 use borrow.Author.Tests.{lt-leb}
 use Rattle.work.specs.declared.Ending.the-variants.{InvalidInput}
 use Rattle.work.specs.Metered.{branch, gives-up}
-use Rattle.objective.specs.declared.sum.Objective.{Objective}
 use Rattle.objective.specs.Litters.{countOf, validFrom, validLitters, validPoint}
 use Rattle.objective.specs.Objective.{admits, objective, refusalOf, limitedOf, objectiveOf}
 

@@ -1,11 +1,11 @@
 -- The table's numbers are the litters' own, or there are more than 128 litters, which are refused as none are.
-use mathlib.Core.Path.{_≡_, refl, sym, ap, subst, _∙_}
-use mathlib.Core.Bool.{true, false}
-use mathlib.Core.List.{List, [], _∷_, _++_}
+use mathlib.Core.Path.{_≡_, refl, sym, ap, _∙_}
+use mathlib.Core.Bool.{false}
+use mathlib.Core.List.{List, [], _∷_}
 use Prim.Native.Nat.{ℕ, suc, _+_, _*_, _<_, _≤_}
 use native.Mathlib.Omega.{arith}
 use lib.Dec.{leb}
-use lib.ListN.{length, set, take, drop, replicate, length-set}
+use lib.ListN.{length, set, take, drop, replicate}
 use lib.Seq.{sets, sets-eq, set-out, take-append-seam}
 use borrow.Author.Tests.{leb-true, leb-false}
 use Rattle.work.specs.Metered.{split}

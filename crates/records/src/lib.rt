@@ -94,14 +94,33 @@ pub fn fit_probit_normal_binomial(r: Request, litters: &[Litter]) -> Fit
     fit_in(r, to_table(litters), litters.len())
 }
 
-pub fn probit_normal_binomial_objective(x: [f64; 4], litters: &[Litter]) -> Objective
-    ensures { λ r. ⌜ (r ≡ objectiveOf x (numbersOf (now (litters .entry)))) × (now (litters .exit) ≡ now (litters .entry)) ⌝ }
+pub fn probit_normal_binomial_objective(point: [f64; 4], litters: &[Litter]) -> Objective
+    ensures { λ r. ⌜ (r ≡ objectiveOf point (numbersOf (now (litters .entry)))) × (now (litters .exit) ≡ now (litters .entry)) ⌝ }
 {
-    objective_in(x, to_table(litters), litters.len())
+    objective_in(point, to_table(litters), litters.len())
 }
 
 pub fn summarize(litters: &[Litter]) -> Summary
     ensures { λ r. ⌜ (r ≡ summaryOf (numbersOf (now (litters .entry)))) × (now (litters .exit) ≡ now (litters .entry)) ⌝ }
 {
     summary_in(to_table(litters), litters.len())
+}
+
+// The same with four litters by value: who calls these needs no walk.
+pub fn fit_four(r: Request, litters: [Litter; 4]) -> Fit
+    ensures { λ f. ⌜ f ≡ fitOf r (numbersOf litters) ⌝ }
+{
+    fit_probit_normal_binomial(r, &litters)
+}
+
+pub fn objective_four(point: [f64; 4], litters: [Litter; 4]) -> Objective
+    ensures { λ r. ⌜ r ≡ objectiveOf point (numbersOf litters) ⌝ }
+{
+    probit_normal_binomial_objective(point, &litters)
+}
+
+pub fn summarize_four(litters: [Litter; 4]) -> Summary
+    ensures { λ r. ⌜ r ≡ summaryOf (numbersOf litters) ⌝ }
+{
+    summarize(&litters)
 }
