@@ -1,5 +1,4 @@
 -- `room` meets its contract, by its test.
-use Prim.Native.Nat.{zero-le}
 use native.Mathlib.Omega.{arith}
 use borrow.Author.Needs.{needs}
 use borrow.Author.Tests.{lt-leb, le-leb}
@@ -7,7 +6,7 @@ use Rattle.records.proofs.room.Statement.{statement}
 use Rattle.records.proofs.room.Tie as tie
 
 many : tie.Need-returns
-many c = (rw (lt-leb _ 128 (c .if1 .taken)), zero-le)
+many c = (rw (lt-leb _ 128 (c .if1 .taken)), omega arith)
 
 few : tie.Need-returns-2
 few c = (rw (le-leb _ 128 (c .if1 .left)), omega (arith, c .if1 .left))
