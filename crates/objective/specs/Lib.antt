@@ -2,3 +2,4 @@ pub mod Litters
 pub mod Totals
 pub mod Objective
 pub mod Bound
+pub mod Refused

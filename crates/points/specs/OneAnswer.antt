@@ -23,7 +23,9 @@ use Rattle.normal.specs.Normal.{logPhi, normalOf}
 use Rattle.normal.specs.Conditional.{millsOf, conditionalOf}
 use Rattle.legendre.specs.Legendre.{legendreOf}
 use Rattle.posterior.specs.Side.{firstOf, risesOf, steepOf, outwardOf, flatOf}
+use Rattle.posterior.specs.declared.integrand.Posterior.{Posterior}
 use Rattle.posterior.specs.Integrand.{integrandOf, atOf}
+use Rattle.posterior.specs.Lent.{evaluatedOf}
 use Rattle.posterior.specs.Bracket.{endsOf, checkedOf}
 use Rattle.posterior.specs.Mode.{modeOf}
 use Rattle.posterior.specs.Tail.{tailBoundOf, rangeOf, goalOf}
@@ -37,12 +39,15 @@ use Rattle.objective.specs.Objective.{limitedOf, objectiveOf}
 use Rattle.descent.specs.Descent.{Trial}
 use Rattle.descent.specs.Status as status
 use Rattle.summary.specs.Summary.{extremeOf, noCounts, plusOf, litterCountsOf, countsOf, summaryOf}
+use Rattle.request.specs.declared.Request.{Request}
 use Rattle.request.specs.Request.{upTo, admits, startOf, lowOf, highOf}
 use Rattle.step.specs.Step.{projectOf, normOf, directionOf, candidateOf, slopeOf, stillOf}
 use Rattle.search.specs.declared.Attempt.{Attempt}
 use Rattle.search.specs.Search.{totalsIn, normAt}
 use Rattle.fit.specs.Descend.{refusalOf, descentOf}
 use Rattle.fit.specs.Fit.{fitOf}
+use Rattle.records.specs.declared.Litter.{Litter}
+use Rattle.records.specs.Records.{numbersOf}
 
 pub one-answer : {A : Type 0} (definition r s : A) → r ≡ definition → s ≡ definition → r ≡ s
 one-answer definition r s e f = e ∙ sym f
@@ -110,6 +115,10 @@ of-twins a b r s e f = rw (e .0, e .1, f .0, f .1)
 pub of-posterior : One5 integrandOf × One2 atOf × One1 firstOf × One2 risesOf × One2 steepOf × One3 outwardOf × One2 flatOf × One1 endsOf × One3 checkedOf × One3 modeOf × One5 tailBoundOf × One2 rangeOf × One4 goalOf
 of-posterior = (one5 _, one2 _, one1 _, one2 _, one2 _, one3 _, one2 _, one1 _, one3 _, one3 _, one5 _, one2 _, one4 _)
 
+-- of a lent posterior: what is returned, and what it is at exit
+pub of-lent : One2 (λ (p : Posterior) (z : Float). evaluatedOf (atOf p z)) × One2 (λ (p : Posterior) (z : Float). atOf p z .p)
+of-lent = (one2 _, one2 _)
+
 pub of-row : One2 coefficientOf × One1 locatedOf × One4 limitsOf × One3 integralOf × ((litter : ℕ) → One6 (rowOf litter))
 of-row = (one2 _, one1 _, one4 _, one3 _, λ litter. one6 (rowOf litter))
 
@@ -131,3 +140,7 @@ of-search = (one1 _, one4 _, λ definition r s e f. one-answer (definition []) r
 
 pub of-fit : One2 refusalOf × One6 descentOf × One2 fitOf
 of-fit = (one2 _, one6 _, one2 _)
+
+-- of lent litters
+pub of-records : One2 (λ (r : Request) (ls : List Litter). fitOf r (numbersOf ls)) × One2 (λ (x : List Float) (ls : List Litter). objectiveOf x (numbersOf ls)) × One1 (λ (ls : List Litter). summaryOf (numbersOf ls))
+of-records = (one2 _, one2 _, one1 _)

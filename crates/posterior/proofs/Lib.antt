@@ -1,4 +1,5 @@
 pub mod BracketLaws
 pub mod IntegrandLaws
+pub mod LentLaws
 pub mod ModeLaws
 pub mod TailLaws

@@ -4,3 +4,4 @@ pub mod Bracket
 pub mod Mode
 pub mod Tail
 pub mod Bound
+pub mod Lent

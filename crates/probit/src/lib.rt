@@ -1,4 +1,8 @@
-// The interface for hosts: numbers and slices in, answers into buffers that the host lends.
+// The interface for hosts: numbers and slices in, answers into buffers that the host lends; for hosts in Rattle, litters as lent records.
+pub use records::Litter;
+pub use records::fit_probit_normal_binomial;
+pub use records::probit_normal_binomial_objective;
+pub use records::summarize;
 ghost use mathlib.Core.Path.{_≡_};
 ghost use Prim.Native.Nat.{_≤_, _<_};
 ghost use lib.ListN.{length};

@@ -1,22 +1,19 @@
 -- From what was read to what is printed: numbers of bits, the litters in the buffer, and each way an answer is found.
 use mathlib.Core.Path.{_≡_, refl, sym, subst, _∙_, ap}
-use mathlib.Core.Bool.{Bool, true, false, cond, _&&_, not}
+use mathlib.Core.Bool.{Bool, true, false, cond, not}
 use mathlib.Core.List.{List, [], _∷_, _++_, append-assoc, append-nil}
 use Prim.Native.Nat.{ℕ, suc, _+_, _*_, _%_, _^_, _≤_, _<_}
 use native.Mathlib.Omega.{arith}
-use lib.Dec.{T, eqb, ltb, leb}
+use lib.Dec.{T, ltb}
 use lib.ListN.{length, getD, set, take, length-set}
 use lib.Seq.{take-suc-set}
 use lib.Ieee.{Float, nan, inf, fin, binary64, isNan, nanBits}
 use lib.Ieee.Bits.{nanBits-is, nanBits-above}
-use borrow.Author.Tests.{lt-ltb, le-ltb, lt-leb, not-true, not-false}
+use borrow.Author.Tests.{lt-ltb, le-ltb, not-true, not-false}
 use Rattle.num.specs.F64.{bits}
-use Rattle.work.specs.declared.Ending.the-variants.{InvalidInput}
-use Rattle.work.specs.Metered.{branch, gives-up}
-use Rattle.objective.specs.Litters.{countOf, validFrom, validLitters}
-use Rattle.request.specs.declared.Request.{Request}
-use Rattle.request.specs.Request.{validBoxes, validControls, validLimit, twoEach, admits}
-use Rattle.fit.specs.Fit.{fit, limitedFit, refusedOf, fitOf}
+use Rattle.objective.specs.Litters.{countOf}
+use Rattle.fit.specs.Fit.{fitOf}
+use Rattle.fit.specs.Refused.{many-refused}
 use Rattle.text.specs.declared.read.Asking.{Asking}
 use Rattle.text.specs.Request.{Asked, asked, form, readRequest}
 use Rattle.text.specs.Rows.{putLitter, putLitters, keptOf, requestSays}
@@ -81,35 +78,6 @@ length-puts : (b : List ℕ) (n : ℕ) (ls : List (List ℕ)) → length (putLit
 unfolding putLitters
 length-puts b n [] = refl
 length-puts b n (l ∷ ls) = length-puts (putLitter b n l) (n + 1) ls ∙ length-put b l n
-
--- ---- more than 128 litters
-
-fourth-false : (a b c d : Bool) → c ≡ false → (a && (b && (c && d))) ≡ false
-fourth-false true true c d e = rw e
-fourth-false true false c d e = refl
-fourth-false false b c d e = refl
-
-many-invalid : (ls : List ℕ) → 128 < countOf ls → validLitters ls ≡ false
-unfolding validLitters
-many-invalid ls h = by (eqb (length ls % 3) 0) (leb 1 (countOf ls)) where
-  by : (a b : Bool) → (a && (b && (leb (countOf ls) 128 && validFrom ls (countOf ls) 0))) ≡ false
-  by a b = fourth-false a b (leb (countOf ls) 128) (validFrom ls (countOf ls) 0) (lt-leb (countOf ls) 128 h)
-
-many-not-admitted : (r : Request) (ls : List ℕ) → 128 < countOf ls → admits r ls ≡ false
-unfolding admits
-many-not-admitted r ls h = fourth-false (validBoxes r) (validControls r) (validLitters ls) (twoEach ls) (many-invalid ls h)
-
-many-limited : (r : Request) (ls : List ℕ) → 128 < countOf ls → limitedFit (r .quadrature .0) r ls ≡ refusedOf InvalidInput 0
-unfolding limitedFit fit
-many-limited r ls h = rw (branch, many-not-admitted r ls h, gives-up)
-
--- whatever else the request holds
-pub many-refused : (r : Request) (ls : List ℕ) → 128 < countOf ls → fitOf r ls ≡ refusedOf InvalidInput 0
-unfolding fitOf
-many-refused r ls h = by (validLimit (r .quadrature .0)) where
-  by : (t : Bool) → cond t (limitedFit (r .quadrature .0) r ls) (refusedOf InvalidInput 0) ≡ refusedOf InvalidInput 0
-  by true = many-limited r ls h
-  by false = refl
 
 -- ---- the three ways
 

@@ -1,0 +1,2 @@
+pub mod LentLitters
+pub mod Turns

@@ -1,0 +1,38 @@
+-- A list of litters as the numbers that the core takes, three a litter, and the table that the code keeps them in.
+use mathlib.Core.Bool.{cond}
+use mathlib.Core.List.{List, [], _∷_}
+use Prim.Native.Nat.{ℕ, _+_, _*_}
+use lib.Dec.{leb}
+use lib.ListN.{set, take, replicate}
+use Rattle.records.specs.declared.Litter.{Litter}
+use Rattle.records.specs.declared.Table.{Table}
+
+-- successes, total, group
+unfoldable pub numbersOf : List Litter → List ℕ
+numbersOf [] = []
+numbersOf (l ∷ ls) = l .successes ∷ l .total ∷ l .group ∷ numbersOf ls
+
+-- ---- the code's table
+
+-- what is read past the end of a list
+abbrev pub noLitter : Litter
+noLitter = record { successes = 0; total = 0; group = 0 }
+
+abbrev pub noRows : Table
+noRows = record { numbers = replicate 384 0 }
+
+-- the i-th litter put into its place; past the last place nothing is put
+abbrev pub withRow : Table → ℕ → Litter → Table
+withRow t i l = record { numbers = set (set (set (t .numbers) (3 * i) (l .successes)) (3 * i + 1) (l .total)) (3 * i + 2) (l .group) }
+
+-- the first of them at the i-th place
+abbrev pub withRows : List Litter → ℕ → Table → Table
+withRows [] i t = t
+withRows (l ∷ ls) i t = withRows ls (i + 1) (withRow t i l)
+
+-- how many numbers are handed on for n litters
+abbrev pub roomOf : ℕ → ℕ
+roomOf n = cond (leb n 128) (3 * n) 0
+
+abbrev pub keptOf : List ℕ → ℕ → List ℕ
+keptOf ns n = take (roomOf n) ns
