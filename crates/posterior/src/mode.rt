@@ -76,7 +76,7 @@ fn steps(p: Posterior, start: Guess) -> Passed
 fn confirm(p: Posterior, z: f64) -> Mode
     ensures { λ r. ⌜ r ≡ confirmedOf p z ⌝ }
 {
-    let a = crate::integrand::evaluate(p, z);
+    let a = crate::lent::evaluate_lent(p, z);
     let end = a.end;
     let q = a.p;
     if work::refused(end) {
