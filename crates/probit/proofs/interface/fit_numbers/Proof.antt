@@ -1,0 +1,17 @@
+-- `interface::fit_numbers` meets its contract.
+use native.Mathlib.Omega.{arith}
+use borrow.Author.Needs.{needs}
+use Rattle.probit.specs.Interface.{fitNumbers}
+use Rattle.probit.proofs.interface.fit_numbers.Statement.{statement}
+use Rattle.probit.proofs.interface.fit_numbers.Tie as tie
+
+pub fit-numbers-spec : {M : Type 1} → statement M
+unfolding fitNumbers
+fit-numbers-spec =
+    tie.close
+    (tie.spec
+    (λ c. search needs)
+    (λ c. search needs)
+    (λ c. search needs)
+    (λ c. search needs)
+    (λ c. search needs))
