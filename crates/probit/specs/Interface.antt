@@ -28,7 +28,7 @@ abbrev unwritten : List Float → List ℕ → Given
 unwritten numbers counts = given 1 numbers counts
 
 -- low, high and start: of both means, then of both SDs
-unfoldable pub requestOf : List Float → Float → ℕ → ℕ → ℕ → Request
+abbrev pub requestOf : List Float → Float → ℕ → ℕ → ℕ → Request
 requestOf b tolerance evaluations iterations quadrature =
     record {
       mean = record { low = getD b 0 nan ∷ getD b 3 nan ∷ []; high = getD b 1 nan ∷ getD b 4 nan ∷ []; start = getD b 2 nan ∷ getD b 5 nan ∷ [] };
@@ -46,7 +46,7 @@ unfoldable pub fitRoom : ℕ → ℕ → ℕ → Bool
 fitRoom bounds numbers counts = eqb bounds 12 && (leb 6 numbers && leb 10 counts)
 
 -- means, SDs, negative log-likelihood, norm of the projected gradient
-unfoldable pub fitNumbers : Fit → List Float
+abbrev pub fitNumbers : Fit → List Float
 fitNumbers f = getD (f .means) 0 nan ∷ getD (f .means) 1 nan ∷ getD (f .sds) 0 nan ∷ getD (f .sds) 1 nan ∷ f .nll ∷ f .norm ∷ []
 
 abbrev markAt : Fit → ℕ → ℕ
@@ -71,14 +71,14 @@ unfoldable pub objectiveRoom : ℕ → ℕ → ℕ → Bool
 objectiveRoom point numbers counts = eqb point 4 && (leb 22 numbers && leb 2 counts)
 
 -- the four coordinates of a point
-unfoldable pub pointOf : List Float → List Float
+abbrev pub pointOf : List Float → List Float
 pointOf p = getD p 0 nan ∷ getD p 1 nan ∷ getD p 2 nan ∷ getD p 3 nan ∷ []
 
 abbrev four : List Float → ℕ → List Float
 four l i = getD l i nan ∷ getD l (i + 1) nan ∷ getD l (i + 2) nan ∷ getD l (i + 3) nan ∷ []
 
 -- value, gradient, Hessian by rows, refinement
-unfoldable pub objectiveNumbers : Objective → List Float
+abbrev pub objectiveNumbers : Objective → List Float
 objectiveNumbers o = (o .nll ∷ four (o .gradient) 0) ++ (four (o .hessian) 0 ++ (four (o .hessian) 4 ++ (four (o .hessian) 8 ++ (four (o .hessian) 12 ++ (o .refinement ∷ [])))))
 
 -- evaluations, reason
@@ -98,7 +98,7 @@ abbrev groupCounts : GroupCounts → List ℕ
 groupCounts g = g .litters ∷ g .successes ∷ g .trials ∷ g .extreme ∷ []
 
 -- of group 0, then of group 1
-unfoldable pub summaryCounts : Summary → List ℕ
+abbrev pub summaryCounts : Summary → List ℕ
 summaryCounts s = groupCounts (s .first) ++ groupCounts (s .second)
 
 unfoldable pub summaryPut : Summary → List ℕ → Given

@@ -1,5 +1,4 @@
 -- `interface::fit_counts` meets its contract.
-use native.Mathlib.Omega.{arith}
 use borrow.Author.Needs.{needs}
 use Rattle.probit.specs.Interface.{fitCounts}
 use Rattle.probit.proofs.interface.fit_counts.Statement.{statement}

@@ -1,5 +1,4 @@
 -- `interface::fit_room` meets its contract.
-use native.Mathlib.Omega.{arith}
 use borrow.Author.Needs.{needs}
 use Rattle.probit.specs.Interface.{fitRoom}
 use Rattle.probit.proofs.interface.fit_room.Statement.{statement}

@@ -1,6 +1,5 @@
 -- `interface::put_fit` meets its contract.
 use Rattle.probit.proofs.InterfaceLaws.{put-fit-is}
-use native.Mathlib.Omega.{arith}
 use borrow.Author.Needs.{needs}
 use Rattle.probit.proofs.interface.put_fit.Statement.{statement}
 use Rattle.probit.proofs.interface.put_fit.Tie as tie

@@ -4,7 +4,6 @@ use mathlib.Core.List.{_++_}
 use Prim.Native.Nat.{_-_, _≤_}
 use lib.ListN.{length, take, drop}
 use Rattle.probit.proofs.PutLaws.{put-turn, put-length, put-done}
-use native.Mathlib.Omega.{arith}
 use borrow.Author.Needs.{needs}
 use Rattle.probit.proofs.put.counts.Statement.{statement}
 use Rattle.probit.proofs.put.counts.Tie as tie
