@@ -1,0 +1,14 @@
+-- `interface::fit_room` meets its contract.
+use borrow.Author.Needs.{needs}
+use Rattle.probit.specs.Interface.{fitRoom}
+use Rattle.probit.proofs.interface.fit_room.Statement.{statement}
+use Rattle.probit.proofs.interface.fit_room.Tie as tie
+
+pub fit-room-spec : {M : Type 1} → statement M
+unfolding fitRoom
+fit-room-spec =
+    tie.close
+    (tie.spec
+    (λ c κs. search needs)
+    (λ c κs. search needs)
+    (λ c. cc))

@@ -1,0 +1,13 @@
+-- `interface::objective_counts` meets its contract.
+use borrow.Author.Needs.{needs}
+use Rattle.probit.specs.Interface.{objectiveCounts}
+use Rattle.probit.proofs.interface.objective_counts.Statement.{statement}
+use Rattle.probit.proofs.interface.objective_counts.Tie as tie
+
+pub objective-counts-spec : {M : Type 1} → statement M
+unfolding objectiveCounts
+objective-counts-spec =
+    tie.close
+    (tie.spec
+    (λ c κs. search needs)
+    (λ c. cc))

@@ -1,0 +1,161 @@
+/* Every function with short buffers, zero lengths and null pointers of length 0.
+ * Each slice ends where memory that may be touched ends, or begins where it begins: a read or a write out of it stops the program.
+ * Every byte that is not to be written is painted before and looked at after. Under valgrind the slices are blocks of the heap. */
+#include <stdio.h>
+#include <stdlib.h>
+#include <string.h>
+#include <sys/mman.h>
+#include <unistd.h>
+
+#include "probit.h"
+
+enum { PAINT = 0xa5, ROOM = 1 << 14 };
+static long calls, wrong;
+static int heap;
+
+/* One slice: `bytes` of it, and what was mapped for it. */
+struct lent {
+    unsigned char *at, *map;
+    size_t bytes, mapped;
+};
+
+/* where: 0 at the end, 1 at the start, 2 null if it has no bytes, else at the end */
+static struct lent lend(const void *from, size_t bytes, int where) {
+    struct lent l = {NULL, NULL, bytes, 0};
+    if (where == 2 && !bytes)
+        return l;
+    if (heap) {
+        l.at = l.map = malloc(bytes ? bytes : 1);
+    } else {
+        size_t page = sysconf(_SC_PAGESIZE);
+        l.mapped = ROOM + 2 * page;
+        l.map = mmap(NULL, l.mapped, PROT_NONE, MAP_PRIVATE | MAP_ANONYMOUS, -1, 0);
+        if (l.map == MAP_FAILED || mprotect(l.map + page, ROOM, PROT_READ | PROT_WRITE))
+            perror("short: mmap"), exit(2);
+        memset(l.map + page, PAINT, ROOM);
+        l.at = l.map + page + (where == 1 ? 0 : ROOM - bytes);
+    }
+    if (from)
+        memcpy(l.at, from, bytes);
+    else
+        memset(l.at, PAINT, bytes);
+    return l;
+}
+
+static int painted(const unsigned char *p, size_t n) {
+    for (size_t i = 0; i < n; i++)
+        if (p[i] != PAINT)
+            return 0;
+    return 1;
+}
+
+/* The slice's bytes from `from` on, and all around it, are as they were painted. */
+static int kept(const struct lent *l, size_t from) {
+    size_t page = sysconf(_SC_PAGESIZE);
+    if (!l->at)
+        return 1;
+    if (!painted(l->at + from, l->bytes - from))
+        return 0;
+    return heap || (painted(l->map + page, l->at - l->map - page) && painted(l->at + l->bytes, l->map + page + ROOM - l->at - l->bytes));
+}
+
+static void give_back(struct lent *l) {
+    if (heap)
+        free(l->map);
+    else if (l->map)
+        munmap(l->map, l->mapped);
+}
+
+static void expect(int good, const char *what, size_t a, size_t b, size_t c, size_t d) {
+    calls++;
+    if (!good && wrong++ < 20)
+        printf("wrong: %s at lengths %zu %zu %zu %zu\n", what, a, b, c, d);
+}
+
+static const double bounds[PROBIT_BOUNDS + 1] = {-1, 1, 0, -1, 1, 0, 0, 1, 0, 0, 1, 0, 9};
+static const double point[PROBIT_POINT + 1] = {0.25, -0.25, 0, 0, 9};
+static const uint32_t litters[] = {1, 2, 0, 1, 2, 0, 1, 2, 1, 1, 2, 1, 7};
+enum { WHOLE = 12 };
+static const char request[] =
+    "probit-request 1\n"
+    "mean 0 bff0000000000000 3ff0000000000000 0000000000000000\n"
+    "mean 1 bff0000000000000 3ff0000000000000 0000000000000000\n"
+    "sd 0 0000000000000000 3ff0000000000000 0000000000000000\n"
+    "sd 1 0000000000000000 3ff0000000000000 0000000000000000\n"
+    "work 10 10 4\ntolerance 3eb0000000000000\n"
+    "litter 0 1 2\nlitter 0 1 2\nlitter 1 1 2\nlitter 1 1 2\nrows 4 at 285\n";
+
+static void one_fit(size_t b, size_t l, size_t n, size_t c, int where) {
+    struct lent lb = lend(bounds, 8 * b, where), ll = lend(litters, 4 * l, where), ln = lend(NULL, 8 * n, where), lc = lend(NULL, 8 * c, where);
+    uint64_t end = probit_fit((double *)lb.at, b, 1e-6, 10, 10, 4, (uint32_t *)ll.at, l, (double *)ln.at, n, (uint64_t *)lc.at, c);
+    int fits = b == PROBIT_BOUNDS && n >= PROBIT_FIT_NUMBERS && c >= PROBIT_FIT_COUNTS;
+    int answered = fits && l == WHOLE;
+    int good = end == (answered ? PROBIT_ANSWERED : PROBIT_INVALID_INPUT);
+    good &= kept(&ln, fits ? 8 * PROBIT_FIT_NUMBERS : 0) && kept(&lc, fits ? 8 * PROBIT_FIT_COUNTS : 0);
+    good &= (!b || !memcmp(lb.at, bounds, 8 * b)) && (!l || !memcmp(ll.at, litters, 4 * l));
+    if (fits)
+        good &= ((uint64_t *)lc.at)[PROBIT_QUADRATURE] == (answered ? 4 : 0) && ((uint64_t *)lc.at)[PROBIT_SD_1_ON_BOUND] == (uint64_t)answered;
+    expect(good, "probit_fit", b, l, n, c);
+    give_back(&lb), give_back(&ll), give_back(&ln), give_back(&lc);
+}
+
+static void one_objective(size_t p, size_t l, size_t n, size_t c, int where) {
+    struct lent lp = lend(point, 8 * p, where), ll = lend(litters, 4 * l, where), ln = lend(NULL, 8 * n, where), lc = lend(NULL, 8 * c, where);
+    uint64_t end = probit_objective((double *)lp.at, p, (uint32_t *)ll.at, l, (double *)ln.at, n, (uint64_t *)lc.at, c);
+    int fits = p == PROBIT_POINT && n >= PROBIT_OBJECTIVE_NUMBERS && c >= PROBIT_OBJECTIVE_COUNTS;
+    int answered = fits && l && l <= WHOLE && l % 3 == 0;
+    int good = end == (answered ? PROBIT_ANSWERED : PROBIT_INVALID_INPUT);
+    good &= kept(&ln, fits ? 8 * PROBIT_OBJECTIVE_NUMBERS : 0) && kept(&lc, fits ? 8 * PROBIT_OBJECTIVE_COUNTS : 0);
+    if (fits)
+        good &= ((uint64_t *)lc.at)[0] == (answered ? l / 3 : 0);
+    expect(good, "probit_objective", p, l, n, c);
+    give_back(&lp), give_back(&ll), give_back(&ln), give_back(&lc);
+}
+
+static void one_summary(size_t l, size_t c, int where) {
+    struct lent ll = lend(litters, 4 * l, where), lc = lend(NULL, 8 * c, where);
+    uint64_t end = probit_summary((uint32_t *)ll.at, l, (uint64_t *)lc.at, c);
+    int fits = c >= PROBIT_SUMMARY_COUNTS, answered = fits && l && l <= WHOLE && l % 3 == 0;
+    int good = end == (answered ? PROBIT_ANSWERED : PROBIT_INVALID_INPUT) && kept(&lc, fits ? 8 * PROBIT_SUMMARY_COUNTS : 0);
+    if (fits)
+        good &= ((uint64_t *)lc.at)[0] == (answered ? (l / 3 < 2 ? l / 3 : 2) : 0);
+    expect(good, "probit_summary", l, c, 0, 0);
+    give_back(&ll), give_back(&lc);
+}
+
+static void one_text(size_t r, size_t o, int where) {
+    struct lent lr = lend(request, r, where), lo = lend(NULL, o, where);
+    size_t n = probit_text(lr.at, r, lo.at, o);
+    int good = o < PROBIT_TEXT ? n == 0 && kept(&lo, 0) : n > 0 && n <= PROBIT_TEXT && kept(&lo, n);
+    if (o >= PROBIT_TEXT)
+        good &= !memcmp(lo.at, r < sizeof request - 1 ? "refused 4" : "status co", 9);
+    expect(good, "probit_text", r, o, 0, 0);
+    give_back(&lr), give_back(&lo);
+}
+
+int main(int argc, char **argv) {
+    heap = argc == 2 && !strcmp(argv[1], "heap");
+    for (int where = 0; where < 3; where++) {
+        for (size_t b = 0; b <= PROBIT_BOUNDS + 1; b++)
+            for (size_t n = 0; n <= PROBIT_FIT_NUMBERS + 1; n++)
+                for (size_t c = 0; c <= PROBIT_FIT_COUNTS + 1; c++)
+                    one_fit(b, WHOLE, n, c, where);
+        for (size_t l = 0; l <= WHOLE + 1; l++) {
+            one_fit(PROBIT_BOUNDS, l, PROBIT_FIT_NUMBERS, PROBIT_FIT_COUNTS, where);
+            one_objective(PROBIT_POINT, l, PROBIT_OBJECTIVE_NUMBERS, PROBIT_OBJECTIVE_COUNTS, where);
+            for (size_t c = 0; c <= PROBIT_SUMMARY_COUNTS + 1; c++)
+                one_summary(l, c, where);
+        }
+        for (size_t p = 0; p <= PROBIT_POINT + 1; p++)
+            for (size_t n = 0; n <= PROBIT_OBJECTIVE_NUMBERS + 1; n++)
+                for (size_t c = 0; c <= PROBIT_OBJECTIVE_COUNTS + 1; c++)
+                    one_objective(p, WHOLE, n, c, where);
+        for (size_t o = 0; o <= PROBIT_TEXT + 1; o++)
+            one_text(sizeof request - 1, o, where);
+        for (size_t r = 0; r < sizeof request; r++)
+            one_text(r, PROBIT_TEXT, where);
+        one_fit(0, 0, 0, 0, where), one_objective(0, 0, 0, 0, where), one_summary(0, 0, where), one_text(0, 0, where);
+    }
+    printf("short: %ld calls, %ld wrong\n", calls, wrong);
+    return wrong != 0;
+}

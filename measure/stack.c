@@ -1,0 +1,118 @@
+/* The stack that each exported function takes: the bytes below the top of a painted stack that a call, with its caller, left changed, over several requests.
+ * Exit status: 1 more than docs/EMBEDDING.md says, 2 a study does not end as it is meant to. */
+#include <stdio.h>
+#include <stdlib.h>
+#include <string.h>
+#include <ucontext.h>
+
+#include "probit.h"
+
+enum { STACK = 1 << 20, PAINT = 0xa5, MOST = 128, SAID = 16384 };
+
+static unsigned char stack[STACK] __attribute__((aligned(64)));
+static ucontext_t here, there;
+
+static uint32_t litters[3 * MOST];
+static size_t litters_len;
+static double bounds[PROBIT_BOUNDS], point[PROBIT_POINT], numbers[PROBIT_OBJECTIVE_NUMBERS];
+static uint64_t counts[PROBIT_FIT_COUNTS], quadrature, end;
+static char request[8193];
+static size_t request_len;
+static uint8_t out[PROBIT_TEXT];
+
+static void fit(void) {
+    end = probit_fit(bounds, PROBIT_BOUNDS, 1e-6, 200, 200, quadrature, litters, litters_len, numbers, PROBIT_FIT_NUMBERS, counts, PROBIT_FIT_COUNTS);
+}
+
+static void objective(void) {
+    probit_objective(point, PROBIT_POINT, litters, litters_len, numbers, PROBIT_OBJECTIVE_NUMBERS, counts, PROBIT_OBJECTIVE_COUNTS);
+}
+
+static void summary(void) { probit_summary(litters, litters_len, counts, PROBIT_SUMMARY_COUNTS); }
+static void text(void) { probit_text((uint8_t *)request, request_len, out, sizeof out); }
+
+static size_t taken(void (*f)(void)) {
+    size_t clean = 0;
+    memset(stack, PAINT, sizeof stack);
+    getcontext(&there);
+    there.uc_stack.ss_sp = stack;
+    there.uc_stack.ss_size = sizeof stack;
+    there.uc_link = &here;
+    makecontext(&there, f, 0);
+    if (swapcontext(&here, &there))
+        exit(2);
+    while (clean < sizeof stack && stack[clean] == PAINT)
+        clean++;
+    return sizeof stack - clean;
+}
+
+static uint64_t bits(double x) {
+    uint64_t n;
+    memcpy(&n, &x, sizeof n);
+    return n;
+}
+
+/* n litters of 5 to 13 pups, affected by halves; the same numbers in each run */
+static void study(size_t n, double mean, double sd, uint64_t limit) {
+    static const char *const names[] = {"mean 0", "mean 1", "sd 0", "sd 1"};
+    uint64_t s = n;
+    size_t first;
+    litters_len = 3 * n;
+    quadrature = limit;
+    for (size_t i = 0; i < n; i++) {
+        uint32_t total, affected = 0;
+        s = s * 6364136223846793005u + 1442695040888963407u;
+        total = 5 + (s >> 33) % 9;
+        for (uint32_t k = 0; k < total; k++)
+            affected += (s >> (20 + k)) & 1;
+        litters[3 * i] = affected, litters[3 * i + 1] = total, litters[3 * i + 2] = i % 2;
+    }
+    for (int i = 0; i < 4; i++) {
+        double *b = bounds + 3 * i;
+        b[0] = i < 2 ? -8 : 0, b[1] = i < 2 ? 8 : 3, b[2] = i < 2 ? (i ? mean : -mean) : sd;
+        point[i] = i < 2 ? b[2] : sd * sd;
+    }
+    request_len = sprintf(request, "probit-request 1\n");
+    for (int i = 0; i < 4; i++)
+        request_len += sprintf(request + request_len, "%s %016lx %016lx %016lx\n", names[i], bits(bounds[3 * i]), bits(bounds[3 * i + 1]), bits(bounds[3 * i + 2]));
+    request_len += sprintf(request + request_len, "work 200 200 %lu\ntolerance %016lx\n", limit, bits(1e-6));
+    first = request_len;
+    for (size_t i = 0; i < n; i++)
+        request_len += sprintf(request + request_len, "litter %u %u %u\n", litters[3 * i + 2], litters[3 * i], litters[3 * i + 1]);
+    request_len += sprintf(request + request_len, "rows %zu at %zu\n", n, first);
+}
+
+static const struct {
+    const char *name;
+    void (*f)(void);
+} functions[] = {{"probit_fit", fit}, {"probit_objective", objective}, {"probit_summary", summary}, {"probit_text", text}};
+
+static const struct {
+    size_t n;
+    double mean, sd;
+    uint64_t limit, end;
+} studies[] = {
+    {4, 0, 0, 20000000, PROBIT_ANSWERED},       {32, 0.1, 0.5, 20000000, PROBIT_ANSWERED}, {MOST, 0.1, 0.5, 20000000, PROBIT_ANSWERED},
+    {32, 0.1, 0.5, 1000, PROBIT_WORK_BUDGET},   {3, 0.1, 0.5, 1000, PROBIT_INVALID_INPUT}, {32, 4, 3, 20000000, PROBIT_ANSWERED},
+};
+
+int main(void) {
+    size_t most = 0;
+    for (size_t i = 0; i < sizeof functions / sizeof *functions; i++) {
+        size_t worst = 0;
+        for (size_t j = 0; j < sizeof studies / sizeof *studies; j++) {
+            size_t n;
+            study(studies[j].n, studies[j].mean, studies[j].sd, studies[j].limit);
+            n = taken(functions[i].f);
+            if (i == 0 && end != studies[j].end) {
+                printf("study %zu ends with %lu\n", j, end);
+                return 2;
+            }
+            worst = n > worst ? n : worst;
+        }
+        printf("%-18s %6zu bytes\n", functions[i].name, worst);
+        most = worst > most ? worst : most;
+    }
+    printf("stack: %zu bytes at most, %d are said to be enough\n", most, SAID);
+    return most > SAID;
+}
