@@ -19,4 +19,9 @@ fit-counts-spec =
     (λ c κs. search needs)
     (λ c. search needs)
     (λ c κs. search needs)
-    (λ c. cc))
+    (λ c.
+    let k = c .before in
+    let j = k .before in
+    let i = j .before in
+    let r = i .before in
+    rw (c .mark4 .ensures, k .mark3 .ensures, j .mark2 .ensures, i .mark .ensures, r .reason .ensures, r .before .number .ensures)))
