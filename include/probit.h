@@ -6,7 +6,7 @@
  *
  * Every value of every argument is answered: no call fails, none keeps state, any number of threads may call at once.
  * The f64 arithmetic is the default one: round to nearest, subnormals kept. A host that switched the processor to flush them
- * (as -ffast-math does at the start of a program) gets other bits.
+ * (as -ffast-math does at the start of a program) may get other bits.
  */
 #ifndef PROBIT_H
 #define PROBIT_H

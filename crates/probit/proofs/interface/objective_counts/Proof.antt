@@ -10,4 +10,4 @@ objective-counts-spec =
     tie.close
     (tie.spec
     (λ c κs. search needs)
-    (λ c. cc))
+    (λ c. rw (c .reason .ensures)))
