@@ -1,4 +1,4 @@
-/* Every function with short buffers, zero lengths and null pointers of length 0.
+/* Every function with short buffers, zero lengths and null pointers of length 0, and with 128 and 129 litters.
  * Each slice ends where memory that may be touched ends, or begins where it begins: a read or a write out of it stops the program.
  * Every byte that is not to be written is painted before and looked at after. Under valgrind the slices are blocks of the heap. */
 #include <stdio.h>
@@ -133,6 +133,26 @@ static void one_text(size_t r, size_t o, int where) {
     give_back(&lr), give_back(&lo);
 }
 
+/* As many litters as there may be, and one more. With SDs of 0 each is one evaluation, and one of two pups is at the means' start. */
+static void most_litters(void) {
+    double numbers[PROBIT_OBJECTIVE_NUMBERS];
+    uint64_t counts[PROBIT_FIT_COUNTS], end;
+    uint32_t many[PROBIT_LITTER * 129];
+    for (size_t i = 0; i < 129; i++)
+        many[3 * i] = 1, many[3 * i + 1] = 2, many[3 * i + 2] = i % 2;
+    for (size_t n = 128; n <= 129; n++) {
+        uint64_t refused = n > 128;
+        for (uint64_t limit = 127; limit <= 128; limit++) {
+            end = probit_fit(bounds, PROBIT_BOUNDS, 1e-6, 10, 10, limit, many, 3 * n, numbers, PROBIT_FIT_NUMBERS, counts, PROBIT_FIT_COUNTS);
+            expect(end == (refused ? PROBIT_INVALID_INPUT : limit < n ? PROBIT_WORK_BUDGET : PROBIT_ANSWERED) && counts[PROBIT_QUADRATURE] == (refused ? 0 : limit), "probit_fit", n, limit, 0, 0);
+        }
+        end = probit_objective(point, PROBIT_POINT, many, 3 * n, numbers, PROBIT_OBJECTIVE_NUMBERS, counts, PROBIT_OBJECTIVE_COUNTS);
+        expect(end == refused && counts[0] == (refused ? 0 : n), "probit_objective", n, 0, 0, 0);
+        end = probit_summary(many, 3 * n, counts, PROBIT_SUMMARY_COUNTS);
+        expect(end == refused && counts[0] == (refused ? 0 : 64) && counts[6] == (refused ? 0 : 128), "probit_summary", n, 0, 0, 0);
+    }
+}
+
 int main(int argc, char **argv) {
     heap = argc == 2 && !strcmp(argv[1], "heap");
     for (int where = 0; where < 3; where++) {
@@ -156,6 +176,7 @@ int main(int argc, char **argv) {
             one_text(r, PROBIT_TEXT, where);
         one_fit(0, 0, 0, 0, where), one_objective(0, 0, 0, 0, where), one_summary(0, 0, where), one_text(0, 0, where);
     }
+    most_litters();
     printf("short: %ld calls, %ld wrong\n", calls, wrong);
     return wrong != 0;
 }
