@@ -4,7 +4,7 @@ mod put;
 
 use work::QuadratureEvaluations;
 ghost use mathlib.Core.Path.{_≡_};
-ghost use Rattle.posterior.specs.Tail.{tailBoundOf};
+ghost use Rattle.tail.specs.Tail.{tailBoundOf};
 ghost use Prim.Native.Nat.{_<_, _≤_};
 ghost use lib.ListN.{length};
 
@@ -76,7 +76,7 @@ pub extern "C" fn leaf_legendre(out: &mut [f64]) -> u64
 pub extern "C" fn leaf_tail_bound(relative: f64, slope: f64, eta: f64, sd: f64, total: u32) -> f64
     ensures { λ r. ⌜ r ≡ tailBoundOf relative slope eta sd total ⌝ }
 {
-    posterior::tail::tail_bound(relative, slope, eta, sd, total)
+    tail::tail_bound(relative, slope, eta, sd, total)
 }
 
 // Eight numbers: the value, the gradient, the Hessian by rows, the refinement. Three counts: the ending's number, its reason, the evaluations.

@@ -1,7 +1,7 @@
 // Each reason of a Domain.
 use posterior::integrand::Posterior;
-use posterior::tail::Hill;
-use posterior::tail::Range;
+use tail::Hill;
+use tail::Range;
 use work::QuadratureEvaluations;
 
 fn row(name: &[u8], successes: u32, total: u32, mean: f64, variance: f64) {
@@ -64,7 +64,7 @@ pub fn tails() {
         delta: 1.0,
         goal: -1.0,
     };
-    range(b"3: goal -1", posterior::tail::bounded(usual(), h));
+    range(b"3: goal -1", tail::bounded(usual(), h));
     // Thirty doublings of so small a scale stay at the mode.
     range(
         b"3: curvature 1e60",

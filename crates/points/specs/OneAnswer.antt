@@ -26,12 +26,12 @@ use Rattle.posterior.specs.Side.{firstOf, risesOf, steepOf, outwardOf, flatOf}
 use Rattle.posterior.specs.declared.integrand.Posterior.{Posterior}
 use Rattle.posterior.specs.Integrand.{integrandOf, atOf}
 use Rattle.posterior.specs.Lent.{evaluatedOf}
-use Rattle.posterior.specs.Bracket.{endsOf, checkedOf}
-use Rattle.posterior.specs.Mode.{modeOf}
-use Rattle.posterior.specs.Tail.{tailBoundOf, rangeOf, goalOf}
+use Rattle.mode.specs.Bracket.{endsOf, checkedOf}
+use Rattle.mode.specs.Mode.{modeOf}
+use Rattle.tail.specs.Tail.{tailBoundOf, rangeOf, goalOf}
 use Rattle.row.specs.Coefficient.{coefficientOf}
 use Rattle.row.specs.Peak.{locatedOf, limitsOf}
-use Rattle.row.specs.Quadrature.{integralOf}
+use Rattle.quadrature.specs.Quadrature.{integralOf}
 use Rattle.row.specs.Share.{rowOf}
 use Rattle.objective.specs.Litters.{validLitters, validPoint}
 use Rattle.objective.specs.Totals.{indexOf, accumulatedOf}

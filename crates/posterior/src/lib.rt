@@ -1,7 +1,4 @@
-// One litter's posterior over its own effect: the counted integrand, the mode's bracket, the mode, and the tails.
-pub mod bracket;
+// One litter's posterior over its own effect: the counted integrand, the two sides of its mode, and a posterior that is lent.
 pub mod integrand;
 pub mod lent;
-pub mod mode;
 pub mod side;
-pub mod tail;

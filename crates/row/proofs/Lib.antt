@@ -1,3 +1,2 @@
 pub mod PeakLaws
-pub mod QuadratureLaws
 pub mod ShareLaws

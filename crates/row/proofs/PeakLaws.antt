@@ -9,13 +9,13 @@ use Rattle.work.specs.declared.Ending.{Ending}
 use Rattle.work.specs.Ended.{isRefused}
 use Rattle.work.specs.Metered.{past}
 use Rattle.posterior.specs.declared.integrand.Posterior.{Posterior}
-use Rattle.posterior.specs.declared.bracket.Span.{Span}
-use Rattle.posterior.specs.declared.mode.Mode.{Mode}
-use Rattle.posterior.specs.declared.tail.Goal.{Goal}
-use Rattle.posterior.specs.declared.tail.Range.{Range}
-use Rattle.posterior.specs.Bracket.{endsOf, checkedOf, noEnds}
-use Rattle.posterior.specs.Mode.{modeOf}
-use Rattle.posterior.specs.Tail.{goalOf, rangeOf}
+use Rattle.mode.specs.declared.bracket.Span.{Span}
+use Rattle.mode.specs.declared.Mode.{Mode}
+use Rattle.tail.specs.declared.Goal.{Goal}
+use Rattle.tail.specs.declared.Range.{Range}
+use Rattle.mode.specs.Bracket.{endsOf, checkedOf, noEnds}
+use Rattle.mode.specs.Mode.{modeOf}
+use Rattle.tail.specs.Tail.{goalOf, rangeOf}
 use Rattle.row.specs.Peak.{peaked, spanned, hillOf, scaleOf, locatedOf, limitsOf}
 
 abbrev noMode : Ending → Posterior → Mode

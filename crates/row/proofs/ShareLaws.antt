@@ -19,16 +19,16 @@ use Rattle.normal.specs.declared.moments.ConditionalLog.{ConditionalLog}
 use Rattle.normal.specs.Conditional.{conditionalOf}
 use Rattle.legendre.specs.declared.Pair.{Pair}
 use Rattle.posterior.specs.declared.integrand.Posterior.{Posterior}
-use Rattle.posterior.specs.declared.mode.Mode.{Mode}
-use Rattle.posterior.specs.declared.tail.Range.{Range}
+use Rattle.mode.specs.declared.Mode.{Mode}
+use Rattle.tail.specs.declared.Range.{Range}
 use Rattle.posterior.specs.Integrand.{aloneOf}
-use Rattle.posterior.specs.Mode.{noPeak}
-use Rattle.posterior.specs.Tail.{noSpan}
-use Rattle.row.specs.declared.quadrature.Integral.{Integral}
+use Rattle.mode.specs.Mode.{noPeak}
+use Rattle.tail.specs.Tail.{noSpan}
+use Rattle.quadrature.specs.declared.Integral.{Integral}
 use Rattle.row.specs.declared.share.Row.{Row}
 use Rattle.row.specs.Coefficient.{coefficientOf}
 use Rattle.row.specs.Peak.{locatedOf, limitsOf}
-use Rattle.row.specs.Quadrature.{integralOf, integralFrom, noSummed}
+use Rattle.quadrature.specs.Quadrature.{integralOf, integralFrom, noSummed}
 use Rattle.row.specs.Share.{gradientOf, hessianOf, byTotal, refusalOf, aloneRowOf, summedOf, overOf, spread, spreadOf, share, rowOf}
 
 module _ (litter successes total : ℕ) (mean choose : Float) (limit : QuadratureEvaluations) where

@@ -18,21 +18,11 @@ use Rattle.work.specs.AtMost.{AtMost, rets, stops, asks, either, both, at-most-
 use Rattle.work.specs.Share.{cap}
 use Rattle.legendre.specs.declared.Pair.{Pair}
 use Rattle.posterior.specs.Integrand.{Eval, at}
-use Rattle.posterior.specs.Bound.{ends-at-most, checkEnds-at-most, peak-at-most, goal-at-most, span-at-most}
-use Rattle.row.specs.declared.quadrature.Hump.{Hump}
+use Rattle.mode.specs.Bound.{ends-at-most, checkEnds-at-most, peak-at-most}
+use Rattle.tail.specs.Bound.{goal-at-most, span-at-most}
+use Rattle.quadrature.specs.Bound.{ten-at-most}
 use Rattle.row.specs.Peak.{peaked, spanned}
-use Rattle.row.specs.Quadrature.{nodes, panels, sides, spoiledOf, refinementOf, accepted, rules, noSums}
 use Rattle.row.specs.Share.{spread, share, rowOf}
-
--- the most that n rules make, the first of them with 2^k panels a side
-unfoldable pub rulesBound : ℕ → ℕ → ℕ
-rulesBound zero k = 0
-rulesBound (suc n) k = 2 ^ k * 16 + 2 ^ k * 16 + rulesBound n (k + 1)
-
--- ten rules, with 1, 2, 4 .. 512 panels a side: 32 * 1023
-pub ten-rules : rulesBound 10 0 ≡ 32736
-unfolding rulesBound
-ten-rules = refl
 
 module _ (here : Float → Eval) where
   -- the mode, with its bracket: 32 + 2 + 101
@@ -45,39 +35,11 @@ module _ (here : Float → Eval) where
   unfolding spanned
   spanned-at-most total mean sd mode log delta = both 60 (goal-at-most here mode log delta) (λ g. span-at-most here _)
 
-  module _ (rule : List Pair) where
-    -- n nodes make at most n
-    pub nodes-at-most : (top center width : Float) (n i : ℕ) (s : List Float) → AtMost n (nodes here rule top center width n i s)
-    unfolding nodes _>>=_
-    nodes-at-most top center width zero i s = rets
-    nodes-at-most top center width (suc n) i s = asks (λ v. nodes-at-most top center width n (i + 1) _)
-
-    -- n panels: sixteen each
-    pub panels-at-most : (top a width : Float) (n i : ℕ) (s : List Float) → AtMost (n * 16) (panels here rule top a width n i s)
-    unfolding panels
-    panels-at-most top a width zero i s = rets
-    panels-at-most top a width (suc n) i s = rw (suc-mul n 16, add-comm (n * 16) 16) (both (n * 16) (nodes-at-most top _ width 16 0 s) (λ t. panels-at-most top a width n (i + 1) t))
-
-    -- both sides with m panels each: 32 m
-    pub sides-at-most : (h : Hump) (m : ℕ) → AtMost (m * 16 + m * 16) (sides here rule h m)
-    unfolding sides
-    sides-at-most h m = both (m * 16) (panels-at-most _ _ _ m 0 noSums) (λ s. panels-at-most _ _ _ m 0 s)
-
-    -- n rules, the first of them with 2^k panels a side
-    pub rules-at-most : (h : Hump) (n k : ℕ) (seen : Bool) (old : List Float) → AtMost (rulesBound n k) (rules here rule h n k seen old)
-    unfolding rules rulesBound
-    rules-at-most h zero k seen old = stops
-    rules-at-most h (suc n) k seen old =
-        both (rulesBound n (k + 1)) (sides-at-most h (2 ^ k)) (λ s. either (spoiledOf s) stops (either (seen && le (refinementOf s old) accepted) rets (rules-at-most h n (k + 1) true s)))
-
-    ten-at-most : (h : Hump) → AtMost 32736 (rules here rule h 10 0 false noSums)
-    ten-at-most h = rw ten-rules at (rules-at-most h 10 0 false noSums)
-
-    -- the share where the variance is not 0: 135 + 62 + 32736
-    pub spread-at-most : (total : ℕ) (mean sd choose : Float) → AtMost (197 + 32736) (spread here rule total mean sd choose)
-    unfolding spread
-    spread-at-most total mean sd choose =
-        both 32798 peaked-at-most (λ m. both 32736 (spanned-at-most total mean sd (m .at) (m .log) _) (λ s. both 0 (ten-at-most _) (λ i. rets)))
+  -- the share where the variance is not 0: 135 + 62 + 32736
+  pub spread-at-most : (rule : List Pair) (total : ℕ) (mean sd choose : Float) → AtMost (197 + 32736) (spread here rule total mean sd choose)
+  unfolding spread
+  spread-at-most rule total mean sd choose =
+      both 32798 peaked-at-most (λ m. both 32736 (spanned-at-most total mean sd (m .at) (m .log) _) (λ s. both 0 (ten-at-most here rule _) (λ i. rets)))
 
 is-short : {A : Type 0} (e : Ended A) → endOf e ≡ WorkBudget → e ≡ short
 is-short (done a) h = cc

@@ -6,13 +6,13 @@ use Rattle.root.specs.Steps.{sqrtOf}
 use Rattle.work.specs.Work.{Work, _>>=_, told}
 use Rattle.posterior.specs.declared.integrand.Posterior.{Posterior}
 use Rattle.posterior.specs.declared.integrand.Point.{Point}
-use Rattle.posterior.specs.declared.mode.Mode.{Mode}
-use Rattle.posterior.specs.declared.tail.Hill.{Hill}
-use Rattle.posterior.specs.declared.tail.Range.{Range}
+use Rattle.mode.specs.declared.Mode.{Mode}
+use Rattle.tail.specs.declared.Hill.{Hill}
+use Rattle.tail.specs.declared.Range.{Range}
 use Rattle.posterior.specs.Integrand.{Eval, here, from}
-use Rattle.posterior.specs.Bracket.{ends, checkEnds}
-use Rattle.posterior.specs.Mode.{Peak, peak, noPeak, toMode}
-use Rattle.posterior.specs.Tail.{goal, Span, span, noSpan, toRange}
+use Rattle.mode.specs.Bracket.{ends, checkEnds}
+use Rattle.mode.specs.Mode.{Peak, peak, noPeak, toMode}
+use Rattle.tail.specs.Tail.{goal, Span, span, noSpan, toRange}
 
 unfoldable pub peaked : (Float → Eval) → Work Eval Point Peak
 peaked here = do

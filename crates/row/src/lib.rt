@@ -1,7 +1,6 @@
 // One litter's share of the objective: its integral over the litter's own effect, by quadrature about the mode.
 pub mod coefficient;
 pub mod peak;
-pub mod quadrature;
 pub mod share;
 
 pub use share::Row;

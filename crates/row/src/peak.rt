@@ -1,15 +1,15 @@
 // The mode of a litter's posterior, and how far out its integral is taken.
 use posterior::integrand::Posterior;
-use posterior::mode::Mode;
-use posterior::tail::Hill;
-use posterior::tail::Range;
+use mode::Mode;
+use tail::Hill;
+use tail::Range;
 ghost use mathlib.Core.Path.{_≡_};
 ghost use Rattle.row.specs.Peak.{locatedOf, limitsOf};
 
 pub fn located(p: Posterior) -> Mode
     ensures { λ r. ⌜ r ≡ locatedOf p ⌝ }
 {
-    let b = posterior::bracket::bracket(p);
+    let b = mode::bracket::bracket(p);
     let end = b.end;
     let q = b.p;
     if work::refused(end) {
@@ -21,7 +21,7 @@ pub fn located(p: Posterior) -> Mode
             curvature: 0.0,
         };
     }
-    let e = posterior::bracket::check(q, b.lo, b.hi);
+    let e = mode::bracket::check(q, b.lo, b.hi);
     let end = e.end;
     let q = e.p;
     if work::refused(end) {
@@ -33,14 +33,14 @@ pub fn located(p: Posterior) -> Mode
             curvature: 0.0,
         };
     }
-    posterior::mode::find(q, e.lo, e.hi)
+    mode::find(q, e.lo, e.hi)
 }
 
 pub fn limits(p: Posterior, mode: f64, log: f64, curvature: f64) -> Range
     ensures { λ r. ⌜ r ≡ limitsOf p mode log curvature ⌝ }
 {
     let delta = 1.0 / root::sqrt(curvature);
-    let g = posterior::tail::tail_goal(p, mode, log, delta);
+    let g = tail::tail_goal(p, mode, log, delta);
     let end = g.end;
     let q = g.p;
     if work::refused(end) {
@@ -60,5 +60,5 @@ pub fn limits(p: Posterior, mode: f64, log: f64, curvature: f64) -> Range
         delta,
         goal: g.goal,
     };
-    posterior::tail::bounded(q, h)
+    tail::bounded(q, h)
 }

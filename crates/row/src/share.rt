@@ -1,6 +1,6 @@
 // One litter's negative log-likelihood with its gradient and Hessian in mean and variance.
-use crate::quadrature::Hump;
-use crate::quadrature::Integral;
+use quadrature::Hump;
+use quadrature::Integral;
 use legendre::Pair;
 use posterior::integrand::Posterior;
 use work::Ending;
@@ -108,7 +108,7 @@ fn summed(i: Integral, choose: f64, log: f64) -> Row
 fn over(p: Posterior, rule: [Pair; 16], h: Hump, choose: f64) -> Row
     ensures { λ r. ⌜ r ≡ overOf p rule h choose ⌝ }
 {
-    let i = crate::quadrature::integrated(p, rule, h);
+    let i = quadrature::integrated(p, rule, h);
     summed(i, choose, h.log)
 }
 

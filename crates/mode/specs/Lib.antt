@@ -1,0 +1,3 @@
+pub mod Bracket
+pub mod Mode
+pub mod Bound

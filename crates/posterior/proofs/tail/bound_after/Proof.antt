@@ -1,8 +1,0 @@
--- `tail::bound_after` meets its contract, by its test and its callees' contracts.
-use borrow.Author.Needs.{needs}
-use Rattle.posterior.proofs.TailLaws.{bound-new, bound-kept}
-use Rattle.posterior.proofs.tail.bound_after.Statement.{statement}
-use Rattle.posterior.proofs.tail.bound_after.Tie as tie
-
-pub bound-after-spec : {M : Type 1} → statement M
-bound-after-spec = tie.close (tie.spec (λ c κs. search needs) (λ c κs. search needs) (λ c κs. search needs) (λ c. search bound-new) (λ c. search bound-kept))
