@@ -14,7 +14,7 @@ use Rattle.posterior.specs.declared.integrand.Posterior.{Posterior}
 use Rattle.posterior.specs.declared.integrand.At.{At}
 use Rattle.mode.specs.declared.bracket.Bound.{Bound}
 use Rattle.mode.specs.declared.bracket.Span.{Span}
-use Rattle.posterior.specs.Side.{risesOf, flatOf, firstOf}
+use Rattle.posterior.specs.Side.{risesOf, flatOf}
 use Rattle.posterior.specs.Integrand.{atOf, noPoint}
 use Rattle.mode.specs.Bracket.{doubled, boundFrom, boundOf, ends, endsOf, checkEnds, checkedOf}
 

@@ -1,5 +1,5 @@
 -- The laws that the proofs of the mode search by: r is what the code answers, `whole` what its contract says.
-use mathlib.Core.Path.{_≡_, _∙_}
+use mathlib.Core.Path.{_≡_}
 use mathlib.Core.Bool.{true, false, cond}
 use Prim.Native.Nat.{ℕ, zero, suc, _-_, _+_, _<_, _≤_}
 use lib.Ieee.{Float, lt, le}

@@ -1,5 +1,5 @@
 -- How many evaluations the bracket and the mode make at most, whatever their values: `AtMost k w` says that w never makes more than k.
-use Prim.Native.Nat.{ℕ, zero, suc, _+_}
+use Prim.Native.Nat.{ℕ, zero, suc}
 use lib.Ieee.{Float, lt, le}
 use Rattle.num.specs.F64.{_⊗_, zero·, two·}
 use Rattle.num.specs.Helpers.{absOf}

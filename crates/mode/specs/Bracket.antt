@@ -1,7 +1,7 @@
 -- The mode's bracket: each end is doubled outward until the density rises from there, at most sixteen times, then both ends are checked.
-use mathlib.Core.Bool.{Bool, cond}
+use mathlib.Core.Bool.{cond}
 use Prim.Native.Nat.{ℕ, zero, suc}
-use lib.Ieee.{Float, le}
+use lib.Ieee.{Float}
 use Rattle.num.specs.F64.{_⊗_, zero·, two·}
 use Rattle.work.specs.declared.Ending.{Ending}
 use Rattle.work.specs.Ended.{domain}

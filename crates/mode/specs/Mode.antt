@@ -1,5 +1,5 @@
 -- The posterior's mode: Newton's steps kept inside the bracket, at most a hundred, then one evaluation that has to confirm it.
-use mathlib.Core.Bool.{Bool, cond, _&&_}
+use mathlib.Core.Bool.{cond, _&&_}
 use Prim.Native.Nat.{ℕ, zero, suc}
 use lib.Ieee.{Float, lt, le}
 use Rattle.num.specs.F64.{_⊕_, _⊗_, _⊘_, bits, zero·, half·, one·}

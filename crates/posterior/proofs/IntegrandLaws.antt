@@ -1,6 +1,6 @@
 -- What an evaluation comes to, by the limit's test.
 use mathlib.Core.Path.{_≡_}
-use Prim.Native.Nat.{ℕ, _+_, _<_, _≤_}
+use Prim.Native.Nat.{_+_, _<_, _≤_}
 use borrow.Author.Tests.{lt-ltb, le-ltb}
 use lib.Ieee.{Float}
 use Rattle.work.specs.declared.Ending.the-variants.{Answered, WorkBudget}

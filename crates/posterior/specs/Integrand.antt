@@ -1,5 +1,4 @@
 -- Evaluations of the integrand. The definitions know of no count and no limit; the code's answers are they, metered.
-use mathlib.Core.List.{[], _∷_}
 use Prim.Native.Nat.{ℕ}
 use lib.ListN.{replicate}
 use lib.Ieee.{Float}

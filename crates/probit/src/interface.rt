@@ -17,7 +17,7 @@ ghost use Rattle.form.specs.Written.{written};
 ghost use Rattle.objective.specs.Objective.{objectiveOf};
 ghost use Rattle.summary.specs.Summary.{summaryOf};
 ghost use Rattle.text.specs.Answer.{answerText};
-ghost use Rattle.text.specs.Room.{room};
+ghost use Rattle.print.specs.Room.{room};
 ghost use Rattle.probit.specs.Interface.{requestOf, given, fitRoom, fitNumbers, fitCounts, fitPut, fitGiven, objectiveRoom, pointOf, objectiveNumbers, objectiveCounts, objectivePut, objectiveGiven, summaryCounts, summaryPut, summaryGiven};
 
 fn request(b: &[f64], tolerance: f64, evaluations: u64, iterations: u64, quadrature: u64) -> Request
@@ -243,5 +243,5 @@ pub extern "C" fn probit_text(request: &[u8], out: &mut [u8]) -> usize
     ensures { λ n. ⌜ (length (now (out .entry)) < room → (n ≡ 0) × (now (out .exit) ≡ now (out .entry))) ⌝ }
     ensures { λ n. ⌜ (room ≤ length (now (out .entry)) → (n ≡ length (answerText (now (request .entry)))) × (now (out .exit) ≡ written (now (out .entry)) 0 (answerText (now (request .entry))))) ⌝ }
 {
-    text::answer::answer(request, out)
+    text::answer(request, out)
 }

@@ -51,7 +51,7 @@ fn read_all(request: &mut [u8]) -> Read {
 fn answer(request: &[u8], end: usize) {
     let n = least(end, request.len());
     let mut out = [0u8; 300];
-    let m = text::answer::answer(&request[..n], &mut out);
+    let m = text::answer(&request[..n], &mut out);
     if !io::write_all(STDOUT_FILENO, &out[..m]) {
         io::write_all(
             STDERR_FILENO,

@@ -1,7 +1,6 @@
 -- The laws that the proofs of the peak search by: r is what the code answers.
 use mathlib.Core.Path.{_≡_}
 use mathlib.Core.Bool.{true, false, cond}
-use Prim.Native.Nat.{ℕ}
 use lib.Ieee.{Float}
 use Rattle.num.specs.F64.{_⊘_, zero·, one·}
 use Rattle.root.specs.Steps.{sqrtOf}

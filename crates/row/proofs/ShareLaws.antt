@@ -1,6 +1,6 @@
 -- The laws that the proofs of a litter's share search by: r is what the code answers.
 use mathlib.Core.Path.{_≡_}
-use mathlib.Core.Bool.{Bool, true, false, cond}
+use mathlib.Core.Bool.{true, false, cond}
 use mathlib.Core.List.{List}
 use Prim.Native.Nat.{ℕ, _<_, _≤_}
 use borrow.Author.Tests.{lt-ltb, le-ltb}
@@ -9,7 +9,6 @@ use lib.Ieee.{Float, nan, neg, eq}
 use Rattle.num.specs.F64.{_⊖_, zero·}
 use Rattle.root.specs.Steps.{sqrtOf}
 use Rattle.elementary.specs.Log.{logOf}
-use Rattle.work.specs.declared.Ending.{Ending}
 use Rattle.work.specs.declared.Ending.the-variants.{Answered, WorkBudget}
 use Rattle.work.specs.declared.QuadratureEvaluations.{QuadratureEvaluations}
 use Rattle.work.specs.Ended.{isRefused}

@@ -1,20 +1,19 @@
 -- How many evaluations a litter's share makes at most, whatever their values: `AtMost k w` says that w never makes more than k.
 -- From it: the source's cap of 65,536 evaluations a litter never binds, and the count that the code reports is that of the evaluations made.
 use mathlib.Core.Path.{_≡_, _∙_, refl, ap}
-use mathlib.Core.Bool.{Bool, true, false, _&&_}
 use mathlib.Core.List.{List}
-use Prim.Native.Nat.{ℕ, zero, suc, _+_, _*_, _^_, _≤_, min, zero-le}
-use native.Mathlib.Nat.{suc-mul, add-comm, zero-add, sub-zero}
+use Prim.Native.Nat.{ℕ, _+_, _≤_, min, zero-le}
+use native.Mathlib.Nat.{zero-add, sub-zero}
 use native.Mathlib.Omega.{arith}
 use lib.ListN.{length}
-use lib.Ieee.{Float, eq, le}
+use lib.Ieee.{Float, eq}
 use Rattle.num.specs.F64.{zero·}
 use Rattle.work.specs.declared.Ending.the-variants.{WorkBudget}
 use Rattle.work.specs.declared.QuadratureEvaluations.{QuadratureEvaluations}
 use Rattle.work.specs.Ended.{Ended, done, stopped, short, endOf, invalid, domain}
 use Rattle.work.specs.Work.{_>>=_, metered, listed, listedL}
 use Rattle.work.specs.Metered.{metered-is, within, short-at}
-use Rattle.work.specs.AtMost.{AtMost, rets, stops, asks, either, both, at-most-listed}
+use Rattle.work.specs.AtMost.{AtMost, rets, asks, either, both, at-most-listed}
 use Rattle.work.specs.Share.{cap}
 use Rattle.legendre.specs.declared.Pair.{Pair}
 use Rattle.posterior.specs.Integrand.{Eval, at}

@@ -1,6 +1,6 @@
 // The mode of a litter's posterior, and how far out its integral is taken.
-use posterior::integrand::Posterior;
 use mode::Mode;
+use posterior::integrand::Posterior;
 use tail::Hill;
 use tail::Range;
 ghost use mathlib.Core.Path.{_≡_};

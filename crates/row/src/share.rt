@@ -1,8 +1,8 @@
 // One litter's negative log-likelihood with its gradient and Hessian in mean and variance.
-use quadrature::Hump;
-use quadrature::Integral;
 use legendre::Pair;
 use posterior::integrand::Posterior;
+use quadrature::Hump;
+use quadrature::Integral;
 use work::Ending;
 use work::QuadratureEvaluations;
 ghost use mathlib.Core.Path.{_≡_};

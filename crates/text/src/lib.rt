@@ -1,4 +1,80 @@
-// A request's text read, and its answer printed.
-pub mod answer;
-pub mod print;
-pub mod read;
+// From a request's bytes to its answer's.
+use request::Bounds;
+use request::Request;
+use work::FitEvaluations;
+use work::Iterations;
+use work::QuadratureEvaluations;
+ghost use mathlib.Core.Path.{_≡_};
+ghost use mathlib.Core.List.{_∷_, []};
+ghost use Prim.Native.Nat.{_≤_, _<_};
+ghost use lib.ListN.{length};
+ghost use Rattle.num.specs.F64.{bits as F64·bits};
+ghost use Rattle.fit.specs.Fit.{fitOf};
+ghost use Rattle.form.specs.Written.{written};
+ghost use Rattle.print.specs.Answer.{fitText};
+ghost use Rattle.text.specs.Answer.{requestOf, answerText};
+ghost use Rattle.print.specs.Room.{room};
+
+// Any NaN's bits give a NaN.
+fn number(bits: u64) -> f64
+    ensures { λ r. ⌜ r ≡ F64·bits bits ⌝ }
+{
+    if 0x7ff0_0000_0000_0000 < bits % 0x8000_0000_0000_0000 {
+        return num::not_a_number();
+    }
+    f64::from_bits(bits)
+}
+
+// Low, high and start of group 0, then of group 1.
+fn bounds(a: u64, b: u64, c: u64, d: u64, e: u64, f: u64) -> Bounds
+    ensures { λ r. ⌜ r ≡ record { low = F64·bits a ∷ F64·bits d ∷ []; high = F64·bits b ∷ F64·bits e ∷ []; start = F64·bits c ∷ F64·bits f ∷ [] } ⌝ }
+{
+    Bounds {
+        low: [number(a), number(d)],
+        high: [number(b), number(e)],
+        start: [number(c), number(f)],
+    }
+}
+
+pub fn request(v: [u64; 16]) -> Request
+    ensures { λ r. ⌜ r ≡ requestOf v ⌝ }
+{
+    Request {
+        mean: bounds(v[0], v[1], v[2], v[3], v[4], v[5]),
+        sd: bounds(v[6], v[7], v[8], v[9], v[10], v[11]),
+        evaluations: FitEvaluations(v[12]),
+        iterations: Iterations(v[13]),
+        quadrature: QuadratureEvaluations(v[14]),
+        tolerance: number(v[15]),
+    }
+}
+
+fn fitted(r: Request, litters: &[u32], out: &mut [u8]) -> usize
+    requires { ⌜ room ≤ length (now out) ⌝ }
+    ensures { λ n. ⌜ (n ≡ length (fitText (fitOf r (now (litters .entry))))) × (now (out .exit) ≡ written (now (out .entry)) 0 (fitText (fitOf r (now (litters .entry))))) ⌝ }
+{
+    print::fit(fit::fit_probit_normal_binomial(r, litters), out)
+}
+
+// The answer's length; 0 where the buffer has not room for every answer, and then it is left as it was.
+pub fn answer(text: &[u8], out: &mut [u8]) -> usize
+    ensures { λ n. ⌜ (length (now (out .entry)) < room → (n ≡ 0) × (now (out .exit) ≡ now (out .entry))) ⌝ }
+    ensures { λ n. ⌜ (room ≤ length (now (out .entry)) → (n ≡ length (answerText (now (text .entry)))) × (now (out .exit) ≡ written (now (out .entry)) 0 (answerText (now (text .entry))))) ⌝ }
+    ensures { λ n. ⌜ n ≤ room ⌝ }
+{
+    if out.len() < 300 {
+        return 0;
+    }
+    let mut litters = [0u32; 384];
+    let a = read::request(text, &mut litters);
+    if !a.fits {
+        return print::refusal(4, 0, a.line, out);
+    }
+    if 128 < a.count {
+        return print::refusal(1, 0, 0, out);
+    }
+    let v = a.values;
+    let r = request(v);
+    let n = 3 * (a.count as usize);
+    fitted(r, &litters[..n], out)
+}

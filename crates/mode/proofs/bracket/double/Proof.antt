@@ -1,5 +1,5 @@
 -- `bracket::double` meets its contract: what the doublings still to come make of the count and the end so far is the whole search.
-use mathlib.Core.Path.{_≡_, refl}
+use mathlib.Core.Path.{_≡_}
 use Prim.Native.Nat.{_-_}
 use borrow.Author.Needs.{needs}
 use Rattle.num.specs.Choose.{choose}

@@ -1,0 +1,20 @@
+-- `print::fit` meets its contract, by the test of its ending.
+use borrow.Author.Needs.{needs}
+use Rattle.form.specs.WrittenLaws.{by-text}
+use Rattle.print.proofs.Laws.{by-whole, fit-refused, fit-reported}
+use Rattle.print.proofs.fit.Statement.{statement}
+use Rattle.print.proofs.fit.Tie as tie
+
+pub fit-spec : {M : Type 1} → statement M
+fit-spec =
+    tie.close
+    (tie.spec
+    (λ c κs. search needs)
+    (λ c κs. search needs)
+    (λ c κs. search needs)
+    (λ c κs. search needs)
+    (λ c. search needs)
+    (λ c. search (by-whole, by-text, fit-refused))
+    (λ c κs. search needs)
+    (λ c. search needs)
+    (λ c. search (by-whole, by-text, fit-reported)))

@@ -1,0 +1,237 @@
+-- Reading a request and rendering it are inverse: each request of at most 8,192 bytes has one text.
+use mathlib.Core.Path.{_≡_, refl, sym, ap, _∙_}
+use mathlib.Core.Logic.{_↔_}
+use mathlib.Core.Bool.{true, _&&_, and-eq-true-iff, false≢true}
+use mathlib.Core.List.{List, [], _∷_, _++_, append-assoc, append-nil}
+use Prim.Native.Nat.{ℕ, zero, suc, _+_, _-_, _*_, _^_, _≤_, _<_, zero-le}
+use native.Mathlib.Nat.{add-zero, zero-add, add-sub-cancel}
+use native.Mathlib.Omega.{arith}
+use borrow.Author.Tests.{ltb-false, eqb-true, eq-eqb, le-ltb}
+use borrow.Table.Steps.{cases}
+use lib.Dec.{T, ltb, eqb, lit≤}
+use lib.ListN.{length, length-append, getD}
+use Rattle.form.specs.Form.{first, after, render, holes}
+use Rattle.form.specs.Read.{Reading, done, departsAt, readByte, readField, read}
+use Rattle.form.specs.Sound.{sound, limits, Holds, most}
+use Rattle.form.specs.BothWays.{holds-below, rendered-read, read-rendered, render-least, render-most}
+use Rattle.read.specs.Request.{head, litter, rows, Asked, asked, form, renderLitters, renderRequest, isEmpty, withLitter, readLast, readRow, readRows, readAfter, readRequest}
+
+-- ---- the three forms
+
+pub head-sound : T (sound head)
+unfolding sound head
+head-sound = tt
+
+pub litter-sound : T (sound litter)
+unfolding sound litter
+litter-sound = tt
+
+pub rows-sound : T (sound rows)
+unfolding sound rows
+rows-sound = tt
+
+-- What a request may ask: sixteen values that fit the head, and three for each litter.
+abbrev pub EachHolds : List (List ℕ) → Type 0
+EachHolds [] = Unit
+EachHolds (l ∷ ls) = Holds litter l × EachHolds ls
+
+pub record Asks (vs : List ℕ) (ls : List (List ℕ)) : Type 0 where
+  pub heads : Holds head vs
+  pub litters : EachHolds ls
+
+-- a litter's numbers, and the limits of the work, are below 2^32
+pub litter-below : (l : List ℕ) → Holds litter l → (getD l 0 0 < 2 ^ 32) × (getD l 1 0 < 2 ^ 32) × (getD l 2 0 < 2 ^ 32)
+unfolding limits holes litter
+litter-below l b = (holds-below litter l 0 b (lit≤ tt), holds-below litter l 1 b (lit≤ tt), holds-below litter l 2 b (lit≤ tt))
+
+pub work-below : (vs : List ℕ) → Holds head vs → (getD vs 12 0 < 2 ^ 32) × (getD vs 13 0 < 2 ^ 32) × (getD vs 14 0 < 2 ^ 32)
+unfolding limits holes head
+work-below vs b = (holds-below head vs 12 b (lit≤ tt), holds-below head vs 13 b (lit≤ tt), holds-below head vs 14 b (lit≤ tt))
+
+-- ---- the lines after the head
+
+-- the last line of a request with n litters, the first at byte `start`
+abbrev pub lastLine : ℕ → ℕ → List ℕ
+lastLine n start = render rows (n ∷ start ∷ [])
+
+-- the last line is no litter's: its first byte is another
+pub no-litter : (line : ℕ) (us t : List ℕ) → read litter line (render rows us ++ t) ≡ departsAt line
+unfolding read readField readByte render litter rows
+no-litter line us t = refl
+
+pub last-holds : (n start : ℕ) → n < 2 ^ 32 → start < 2 ^ 32 → Holds rows (n ∷ start ∷ [])
+unfolding limits rows
+last-holds n start h g = (h, (g, tt))
+
+rows-read-back :
+    (k : ℕ) (vs : List ℕ) (start n : ℕ) (ls : List (List ℕ)) → EachHolds ls → length ls < k → n + length ls < 2 ^ 32 → start < 2 ^ 32 →
+    readRows k vs start n (renderLitters ls ++ lastLine (n + length ls) start) ≡ asked vs ls
+unfolding readRows renderLitters
+rows-read-back zero vs start n ls a h g b = absurd (omega arith)
+rows-read-back (suc k) vs start n [] a h g b =
+    let us = n ∷ start ∷ [] in
+    let m = append-nil (render rows us) in
+    let r = read-rendered rows us [] (8 + n) rows-sound (last-holds n start (omega arith) b) in
+    rw (add-zero n, ← m, no-litter (8 + n) us [], r, eq-eqb n n refl, eq-eqb start start refl)
+rows-read-back (suc k) vs start n (l ∷ ls) a h g b =
+    let m : n + suc (length ls) ≡ n + 1 + length ls = omega arith in
+    let rest = renderLitters ls ++ lastLine (n + 1 + length ls) start in
+    rw
+    (m, append-assoc (render litter l) (renderLitters ls) (lastLine (n + 1 + length ls) start), read-rendered litter l rest (8 + n) litter-sound (a .0), rows-read-back k vs start (n + 1) ls (a .1) (omega arith) (omega arith) b)
+
+-- neither is empty
+pub forms-some : (1 ≤ length head) × (1 ≤ length litter)
+unfolding head litter
+forms-some = (lit≤ tt, lit≤ tt)
+
+pub litters-some : (ls : List (List ℕ)) → length ls ≤ length (renderLitters ls)
+unfolding renderLitters
+litters-some [] = zero-le
+litters-some (l ∷ ls) = rw (length-append (render litter l) (renderLitters ls)) (omega (arith, forms-some, render-least litter l, litters-some ls))
+
+-- the text in its three parts, and its length
+pub parts-long : (a b c : List ℕ) → length (a ++ (b ++ c)) ≡ length a + (length b + length c)
+parts-long a b c = simp length-append
+
+-- after the head, its rows are read
+pub after-head : (vs rest : List ℕ) → Holds head vs → length (render head vs ++ rest) ≤ 8192 → readRequest (render head vs ++ rest) ≡ readRows 8192 vs (length (render head vs)) 0 rest
+unfolding readRequest
+after-head vs rest b h =
+    let start = length (render head vs) in
+    let z : length (render head vs ++ rest) - length rest ≡ start = rw (length-append (render head vs) rest) (add-sub-cancel start (length rest)) in
+    rw (le-ltb 8192 (length (render head vs ++ rest)) h, read-rendered head vs rest 1 head-sound b, z)
+
+-- What is rendered is read back, if it is no longer than a text may be.
+pub request-read-back : (vs : List ℕ) (ls : List (List ℕ)) → Asks vs ls → length (renderRequest vs ls) ≤ 8192 → readRequest (renderRequest vs ls) ≡ asked vs ls
+unfolding renderRequest
+request-read-back vs ls a h =
+    let start = length (render head vs) in
+    let last = lastLine (length ls) start in
+    let n = parts-long (render head vs) (renderLitters ls) last in
+    let s = litters-some ls in
+    let o = forms-some in
+    let s' = render-least head vs in
+    let r = rows-read-back 8192 vs start 0 ls (a .litters) (omega arith) (omega arith) (omega arith) in
+    after-head vs (renderLitters ls ++ last) (a .heads) h ∙ (rw (zero-add (length ls)) at r)
+
+-- ---- how long a request is
+
+most-are : (most head ≡ 310) × (most litter ≡ 40) × (most rows ≡ 30)
+unfolding most head litter rows
+most-are = (refl, refl, refl)
+
+litters-most : (ls : List (List ℕ)) → EachHolds ls → length (renderLitters ls) ≤ 40 * length ls
+unfolding renderLitters
+litters-most [] a = zero-le
+litters-most (l ∷ ls) a = rw (length-append (render litter l) (renderLitters ls)) (omega (arith, render-most litter l (a .0), most-are, litters-most ls (a .1)))
+
+-- a request of at most 128 litters is no longer than a text may be
+pub short-enough : (vs : List ℕ) (ls : List (List ℕ)) → Asks vs ls → length ls ≤ 128 → length (renderRequest vs ls) ≤ 8192
+unfolding renderRequest
+short-enough vs ls a h =
+    let start = length (render head vs) in
+    let us = length ls ∷ start ∷ [] in
+    let m = most-are in
+    let p = render-most head vs (a .heads) in
+    let q = litters-most ls (a .litters) in
+    let r = render-most rows us (last-holds (length ls) start (omega arith) (omega arith)) in
+    rw (parts-long (render head vs) (renderLitters ls) (render rows us)) (omega arith)
+
+-- ---- what is read is a rendering
+
+pub not-asked : (k : ℕ) (vs : List ℕ) (ls : List (List ℕ)) → form k ≡ asked vs ls → ⊥
+not-asked k vs ls e = let z : _≡_ {A = ℕ} 0 1 = cc in omega arith
+
+-- s is the lines of the litters ls, which come after n others, and the last line
+pub record RowsAre (vs : List ℕ) (start n : ℕ) (s us : List ℕ) (ls : List (List ℕ)) : Type 0 where
+  pub same : vs ≡ us
+  pub each : EachHolds ls
+  pub text : s ≡ renderLitters ls ++ lastLine (n + length ls) start
+
+last-values : (ws : List ℕ) (n start : ℕ) → Holds rows ws → first ws ≡ n → first (after ws) ≡ start → ws ≡ n ∷ start ∷ []
+unfolding limits rows
+last-values [] n start b p q = absurd b
+last-values (w ∷ []) n start b p q = absurd (b .1)
+last-values (w ∷ u ∷ []) n start b p q = rw (p, q)
+last-values (w ∷ u ∷ x ∷ ws) n start b p q = absurd (b .1 .1)
+
+-- a last line with the right numbers
+pub last-right : (line start n : ℕ) (s ws t : List ℕ) → read rows line s ≡ done ws t → (eqb (first ws) n && eqb (first (after ws)) start) ≡ true → s ≡ lastLine n start ++ t
+last-right line start n s ws t e b =
+    let r = rendered-read rows s ws t line rows-sound e in
+    let q = and-eq-true-iff (eqb (first ws) n) (eqb (first (after ws)) start) .0 b in
+    let w = last-values ws n start (r .1) (eqb-true (first ws) n (q .0)) (eqb-true (first (after ws)) start (q .1)) in
+    r .0 ∙ ap (λ x. render rows x ++ t) w
+
+is-empty : (t : List ℕ) → isEmpty t ≡ true → t ≡ []
+is-empty [] h = refl
+is-empty (c ∷ t) h = absurd (false≢true h)
+
+last-read-is : (vs : List ℕ) (line start n : ℕ) (s us : List ℕ) (ls : List (List ℕ)) (r : Reading) → read rows line s ≡ r → readLast vs line start n r ≡ asked us ls → RowsAre vs start n s us ls
+unfolding renderLitters
+last-read-is vs line start n s us ls (departsAt k) e f = absurd (not-asked line us ls f)
+last-read-is vs line start n s us ls (done ws t) e f =
+    cases (eqb (first ws) n && eqb (first (after ws)) start)
+    (λ b. cases (isEmpty t)
+    (λ o.
+    let g = rw (b, o) at f in
+    let z : [] ≡ ls = cc in
+    let x : s ≡ lastLine n start = last-right line start n s ws t e b ∙ rw (is-empty t o) (append-nil (lastLine n start)) in
+    record { same = cc; each = rw (← z) tt; text = rw (← z, add-zero n) x })
+    (λ o. absurd (not-asked (line + 1) us ls (rw (b, o) at f))))
+    (λ b. absurd (not-asked line us ls (rw b at f)))
+
+litter-read-is :
+    (vs : List ℕ) (start n : ℕ) (s us : List ℕ) (ls : List (List ℕ)) (l t : List ℕ) → read litter (8 + n) s ≡ done l t → RowsAre vs start (n + 1) t us ls → RowsAre vs start n s us (l ∷ ls)
+unfolding renderLitters
+litter-read-is vs start n s us ls l t e r =
+    let q = rendered-read litter s l t (8 + n) litter-sound e in
+    let m : n + suc (length ls) ≡ n + 1 + length ls = omega arith in
+    let x = q .0 ∙ ap (λ x. render litter l ++ x) (r .text) ∙ sym (append-assoc (render litter l) (renderLitters ls) (lastLine (n + 1 + length ls) start)) in
+    record { same = r .same; each = (q .1, r .each); text = rw m x }
+
+-- what k lines more are, wherever they start
+abbrev RowsReadIs : ℕ → List ℕ → ℕ → ℕ → Type 0
+RowsReadIs k vs start n = (s us : List ℕ) (ls : List (List ℕ)) → readRows k vs start n s ≡ asked us ls → RowsAre vs start n s us ls
+
+rows-read-is : (k : ℕ) (vs : List ℕ) (start n : ℕ) → RowsReadIs k vs start n
+unfolding readRows
+rows-read-is zero vs start n s us ls e = absurd (not-asked (8 + n) us ls e)
+rows-read-is (suc k) vs start n s us ls e = by-line (rows-read-is k vs start (n + 1)) (read litter (8 + n) s) refl e
+  where
+    by-rest : RowsReadIs k vs start (n + 1) → (l t : List ℕ) (a : Asked) → read litter (8 + n) s ≡ done l t → readRows k vs start (n + 1) t ≡ a → withLitter l a ≡ asked us ls → RowsAre vs start n s us ls
+    by-rest ih l t (form x) e₁ e₂ e₃ = absurd (not-asked x us ls e₃)
+    by-rest ih l t (asked us' ls') e₁ e₂ e₃ = let z : l ∷ ls' ≡ ls = cc in rw (← z) (litter-read-is vs start n s us ls' l t e₁ (ih t us ls' (e₂ ∙ cc)))
+
+    by-line : RowsReadIs k vs start (n + 1) → (r : Reading) → read litter (8 + n) s ≡ r → readRow vs (8 + n) start n s r (readRows k vs start (n + 1)) ≡ asked us ls → RowsAre vs start n s us ls
+    by-line ih (done l t) e₁ e₂ = by-rest ih l t (readRows k vs start (n + 1) t) e₁ refl e₂
+    by-line ih (departsAt x) e₁ e₂ = last-read-is vs (8 + n) start n s us ls (read rows (8 + n) s) refl e₂
+
+-- What is read is the rendering of what it asks.
+pub read-is-rendering : (text vs : List ℕ) (ls : List (List ℕ)) → readRequest text ≡ asked vs ls → (text ≡ renderRequest vs ls) × Asks vs ls
+unfolding readRequest renderRequest
+read-is-rendering text vs ls e =
+    cases (ltb 8192 (length text))
+    (λ b. absurd (not-asked 0 vs ls (rw b at e)))
+    (λ b. by-head (read head 1 text) refl (rw b at e))
+  where
+    by-head : (r : Reading) → read head 1 text ≡ r → readAfter text r ≡ asked vs ls → (text ≡ renderRequest vs ls) × Asks vs ls
+    by-head (departsAt k) e₁ e₂ = absurd (not-asked k vs ls e₂)
+    by-head (done us s) e₁ e₂ =
+        let q = rendered-read head text us s 1 head-sound e₁ in
+        let r = rows-read-is 8192 us (length text - length s) 0 s vs ls e₂ in
+        let h = render head us in
+        let z : length text - length s ≡ length h = ap (λ x. length x - length s) (q .0) ∙ rw (length-append h s) (add-sub-cancel (length h) (length s)) in
+        rw (← (r .same)) (q .0 ∙ ap (λ x. h ++ x) (r .text ∙ rw (z, zero-add (length ls))), record { heads = q .1; litters = r .each })
+
+-- two texts that ask the same are the same
+pub one-text : (text text' vs : List ℕ) (ls : List (List ℕ)) → readRequest text ≡ asked vs ls → readRequest text' ≡ asked vs ls → text ≡ text'
+one-text text text' vs ls e e' = read-is-rendering text vs ls e .0 ∙ sym (read-is-rendering text' vs ls e' .0)
+
+-- A text is read as a request exactly if it is that request's rendering, within the limits.
+pub read-exactly : (text vs : List ℕ) (ls : List (List ℕ)) → readRequest text ≡ asked vs ls ↔ ((text ≡ renderRequest vs ls) × Asks vs ls × (length text ≤ 8192))
+unfolding readRequest
+read-exactly text vs ls = (
+  λ e. let r = read-is-rendering text vs ls e in (r .0, r .1, cases (ltb 8192 (length text)) (λ b. absurd (not-asked 0 vs ls (rw b at e))) (λ b. ltb-false 8192 (length text) b)),
+  λ r. rw (r .0) (request-read-back vs ls (r .1) (rw (r .0) at (r .2))),
+)

@@ -1,0 +1,5 @@
+pub mod Request
+pub mod Rows
+pub mod BothWays
+pub mod Points
+pub mod Departure

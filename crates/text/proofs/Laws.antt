@@ -1,0 +1,127 @@
+-- From what was read to what is printed: numbers of bits, the litters in the buffer, and each way an answer is found.
+use mathlib.Core.Path.{_≡_, refl, sym, subst, _∙_, ap}
+use mathlib.Core.Bool.{Bool, true, false, cond, not}
+use mathlib.Core.List.{List, [], _∷_, _++_, append-assoc, append-nil}
+use Prim.Native.Nat.{ℕ, suc, _+_, _*_, _%_, _^_, _≤_, _<_}
+use native.Mathlib.Omega.{arith}
+use lib.Dec.{T, ltb}
+use lib.ListN.{length, getD, set, take, length-set}
+use lib.Seq.{take-suc-set}
+use lib.Ieee.{Float, nan, inf, fin, binary64, isNan, nanBits}
+use lib.Ieee.Bits.{nanBits-is, nanBits-above}
+use borrow.Author.Tests.{lt-ltb, le-ltb, not-true, not-false}
+use Rattle.num.specs.F64.{bits}
+use Rattle.objective.specs.Litters.{countOf}
+use Rattle.fit.specs.Fit.{fitOf}
+use Rattle.fit.specs.Refused.{many-refused}
+use Rattle.read.specs.declared.Asking.{Asking}
+use Rattle.read.specs.Request.{Asked, asked, form, readRequest}
+use Rattle.read.specs.Rows.{putLitter, putLitters, keptOf, requestSays}
+use Rattle.print.specs.Answer.{refusalText, fitText}
+use Rattle.text.specs.Answer.{requestOf, littersOf, answerTo, answerText}
+
+-- ---- a number of its bits
+
+is-nan : (x : Float) → isNan x ≡ true → x ≡ nan
+unfolding isNan
+is-nan nan h = refl
+is-nan (inf s) h = absurd (subst T (sym h) tt)
+is-nan (fin s m e) h = absurd (subst T (sym h) tt)
+
+module _ (n : ℕ) where
+  pub nan-bits : 0x7ff0_0000_0000_0000 < n % 2 ^ 63 → nan ≡ bits n
+  nan-bits h = sym (is-nan (bits n) (sym (nanBits-is binary64 n) ∙ rw (nanBits-above binary64 n) (lt-ltb (0x7ff0_0000_0000_0000) (n % 2 ^ 63) h)))
+
+  pub some-bits : n % 2 ^ 63 ≤ 0x7ff0_0000_0000_0000 → T (not (nanBits binary64 n))
+  some-bits h = rw (nanBits-above binary64 n, le-ltb (0x7ff0_0000_0000_0000) (n % 2 ^ 63) h) tt
+
+-- ---- the litters in the buffer
+
+module _ (b : List ℕ) (n x y z : ℕ) (room : 3 * n + 2 < length b) where
+  three : take (3 * (n + 1)) (set (set (set b (3 * n) x) (3 * n + 1) y) (3 * n + 2) z) ≡ take (3 * n) b ++ (x ∷ y ∷ z ∷ [])
+  three =
+      let e : 3 * (n + 1) ≡ suc (3 * n + 2) = omega arith in
+      let f : 3 * n + 2 ≡ suc (3 * n + 1) = omega arith in
+      let g : 3 * n + 1 ≡ suc (3 * n) = omega arith in
+      let first = take-suc-set b (3 * n) x (omega arith) in
+      let second = take-suc-set (set b (3 * n) x) (3 * n + 1) y (rw (length-set b (3 * n) x) (omega arith)) in
+      let third = take-suc-set (set (set b (3 * n) x) (3 * n + 1) y) (3 * n + 2) z (rw (length-set (set b (3 * n) x) (3 * n + 1) y, length-set b (3 * n) x) (omega arith)) in
+      ap (λ k. take k (set (set (set b (3 * n) x) (3 * n + 1) y) (3 * n + 2) z)) e ∙ third ∙
+      ap (λ l. l ++ (z ∷ [])) (ap (λ k. take k (set (set b (3 * n) x) (3 * n + 1) y)) f ∙ second ∙ ap (λ l. l ++ (y ∷ [])) (ap (λ k. take k (set b (3 * n) x)) g ∙ first)) ∙
+      rw (append-assoc (take (3 * n) b) (x ∷ []) (y ∷ []), append-assoc (take (3 * n) b) (x ∷ y ∷ []) (z ∷ []))
+
+length-put : (b l : List ℕ) (n : ℕ) → length (putLitter b n l) ≡ length b
+unfolding putLitter
+length-put b l n = by (ltb n 128) where
+  by : (t : Bool) → length (cond t (set (set (set b (3 * n) (getD l 1 0)) (3 * n + 1) (getD l 2 0)) (3 * n + 2) (getD l 0 0)) b) ≡ length b
+  by true = simp length-set
+  by false = refl
+
+put-three : (b l : List ℕ) (n : ℕ) → length b ≡ 384 → n < 128 → take (3 * (n + 1)) (putLitter b n l) ≡ take (3 * n) b ++ (getD l 1 0 ∷ getD l 2 0 ∷ getD l 0 0 ∷ [])
+unfolding putLitter
+put-three b l n s m = rw (lt-ltb n 128 m) (three b n (getD l 1 0) (getD l 2 0) (getD l 0 0) (omega arith))
+
+pub kept-litters : (b : List ℕ) (n : ℕ) (ls : List (List ℕ)) → length b ≡ 384 → n + length ls ≤ 128 → take (3 * (n + length ls)) (putLitters b n ls) ≡ take (3 * n) b ++ littersOf ls
+unfolding putLitters littersOf
+kept-litters b n [] s h = let e : n + 0 ≡ n = omega arith in rw (e, append-nil (take (3 * n) b))
+kept-litters b n (l ∷ ls) s h =
+    let e : n + suc (length ls) ≡ n + 1 + length ls = omega arith in
+    let m : n < 128 = omega arith in
+    let ih = kept-litters (putLitter b n l) (n + 1) ls (length-put b l n ∙ s) (omega arith) in
+    rw e (ih ∙ rw (put-three b l n s m) (append-assoc (take (3 * n) b) (getD l 1 0 ∷ getD l 2 0 ∷ getD l 0 0 ∷ []) (littersOf ls)))
+
+length-litters : (ls : List (List ℕ)) → length (littersOf ls) ≡ 3 * length ls
+unfolding littersOf
+length-litters [] = refl
+length-litters (l ∷ ls) = rw (length-litters ls) (omega arith)
+
+length-puts : (b : List ℕ) (n : ℕ) (ls : List (List ℕ)) → length (putLitters b n ls) ≡ length b
+unfolding putLitters
+length-puts b n [] = refl
+length-puts b n (l ∷ ls) = length-puts (putLitter b n l) (n + 1) ls ∙ length-put b l n
+
+-- ---- the three ways
+
+count-litters : (ls : List (List ℕ)) → countOf (littersOf ls) ≡ length ls
+count-litters ls = omega (arith, length-litters ls)
+
+module _ (b buf : List ℕ) (a : Asking) where
+  form-of : (q : Asked) → requestSays a buf ≡ keptOf b 0 q → a .fits ≡ false → answerTo q ≡ refusalText 4 0 (a .line)
+  form-of (form k) s f = let e : k ≡ a .line = cc (rw f at s) in rw e
+  form-of (asked vs ls) s f = let z : _≡_ {A = ℕ} 0 1 = cc (rw f at s) in absurd (omega arith)
+
+  many-of : (q : Asked) → requestSays a buf ≡ keptOf b 0 q → a .fits ≡ true → 128 < a .count → answerTo q ≡ refusalText 1 0 0
+  unfolding fitText
+  many-of (form k) s f h = let z : _≡_ {A = ℕ} 0 1 = cc (rw f at s) in absurd (omega arith)
+  many-of (asked vs ls) s f h =
+      let e : a .count ≡ 0 + length ls = cc (rw f at s) in
+      let m : 128 < countOf (littersOf ls) = omega (arith, count-litters ls) in
+      rw (many-refused (requestOf vs) (littersOf ls) m)
+
+  fit-of : (q : Asked) → requestSays a buf ≡ keptOf b 0 q → a .fits ≡ true → length b ≡ 384 → a .count ≤ 128 → answerTo q ≡ fitText (fitOf (requestOf (a .values)) (take (3 * a .count) buf))
+  fit-of (form k) s f l h = let z : _≡_ {A = ℕ} 0 1 = cc (rw f at s) in absurd (omega arith)
+  fit-of (asked vs ls) s f l h =
+      let e : a .count ≡ 0 + length ls = cc (rw f at s) in
+      let v : a .values ≡ vs = cc (rw f at s) in
+      let w : buf ≡ putLitters b 0 ls = cc (rw f at s) in
+      rw (v, w, e, kept-litters b 0 ls l (omega arith))
+
+  length-of : (q : Asked) → requestSays a buf ≡ keptOf b 0 q → a .fits ≡ true → length buf ≡ length b
+  length-of (form k) s f = let z : _≡_ {A = ℕ} 0 1 = cc (rw f at s) in absurd (omega arith)
+  length-of (asked vs ls) s f = let w : buf ≡ putLitters b 0 ls = cc (rw f at s) in rw w (length-puts b 0 ls)
+
+  module _ (text : List ℕ) (s : requestSays a buf ≡ keptOf b 0 (readRequest text)) where
+    pub buffer-length : not (a .fits) ≡ false → length buf ≡ length b
+    buffer-length f = length-of (readRequest text) s (not-false (a .fits) f)
+
+    pub answer-form : not (a .fits) ≡ true → refusalText 4 0 (a .line) ≡ answerText text
+    unfolding answerText
+    answer-form f = sym (form-of (readRequest text) s (not-true (a .fits) f))
+
+    pub answer-many : not (a .fits) ≡ false → 128 < a .count → refusalText 1 0 0 ≡ answerText text
+    unfolding answerText
+    answer-many f h = sym (many-of (readRequest text) s (not-false (a .fits) f) h)
+
+    pub answer-fit : not (a .fits) ≡ false → length b ≡ 384 → a .count ≤ 128 → fitText (fitOf (requestOf (a .values)) (take (3 * a .count) buf)) ≡ answerText text
+    unfolding answerText
+    answer-fit f l h = sym (fit-of (readRequest text) s (not-false (a .fits) f) l h)

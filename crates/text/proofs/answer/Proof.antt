@@ -1,0 +1,68 @@
+-- `text::answer` meets its contract: no room, a text without the form, too many litters, or the fit.
+use mathlib.Core.Path.{refl, sym}
+use Prim.Native.Nat.{zero-le}
+use native.Mathlib.Omega.{arith}
+use lib.Seq.{length-take-le}
+use borrow.Author.Needs.{needs}
+use Rattle.print.specs.Room.{refusal-fits, answer-fits}
+use Rattle.text.proofs.Laws.{answer-form, answer-many, answer-fit, buffer-length}
+use Rattle.text.proofs.answer.Statement.{statement}
+use Rattle.text.proofs.answer.Tie as tie
+
+no-room : tie.Need-returns
+no-room c = ((λ h. (refl, refl)), ((λ h. absurd (omega (arith, c .if1 .taken))), zero-le))
+
+no-form : tie.Need-returns-2
+no-form c =
+    let f = c .before .before in
+    let t = f .before .before in
+    let q = t .before .before in
+    let e = answer-form _ _ (q .request .result) _ (q .request .ensures) (t .if2 .taken) in
+    ((λ h. absurd (omega (arith, q .before .before .if1 .left))), ((λ h. rw (← e) (f .refusal .ensures)), omega (arith, f .refusal .ensures .0, refusal-fits 4 0 (q .request .result .line))))
+
+many : tie.Need-returns-3
+many c =
+    let f = c .before .before in
+    let t = f .before .before in
+    let l = t .before .before in
+    let q = l .before .before in
+    let e = answer-many _ _ (q .request .result) _ (q .request .ensures) (l .if2 .left) (t .if3 .taken) in
+    ((λ h. absurd (omega (arith, q .before .before .if1 .left))), ((λ h. rw (← e) (f .refusal2 .ensures)), omega (arith, f .refusal2 .ensures .0, refusal-fits 1 0 0)))
+
+-- the places of the litters in the buffer
+inside : tie.Need-array-share-prefix-litters
+inside c =
+    let t = c .before .before in
+    let l = t .before .before in
+    let q = l .before .before in
+    omega (arith, t .if3 .left, buffer-length _ _ (q .request .result) _ (q .request .ensures) (l .if2 .left))
+
+fits : tie.Need-returns-4
+fits c =
+    let f = c .before .before in
+    let v = f .before .before .before in
+    let t = v .before .before in
+    let l = t .before .before in
+    let q = l .before .before in
+    let e = answer-fit _ _ (q .request .result) _ (q .request .ensures) (l .if2 .left) refl (t .if3 .left) in
+    ((λ h. absurd (omega (arith, q .before .before .if1 .left))), ((λ h. rw (← e, ← v .request2 .ensures) (f .fitted .ensures)), rw (f .fitted .ensures .0) (answer-fits _)))
+
+pub answer-spec : {M : Type 1} → statement M
+answer-spec =
+    tie.close
+    (tie.spec
+    no-room
+    (λ c κs. search needs)
+    (λ c κs. search needs)
+    (λ c. search needs)
+    no-form
+    (λ c κs. search needs)
+    (λ c. search needs)
+    many
+    (λ c κs. search needs)
+    (λ c. search needs)
+    inside
+    (λ c. sym (length-take-le _ _ (inside (c .before))))
+    (λ c κs. search needs)
+    (λ c. search needs)
+    fits)
