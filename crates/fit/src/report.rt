@@ -76,7 +76,7 @@ fn sds(r: Request, x: [f64; 4]) -> [f64; 2]
 fn on_bound(x: f64, lo: f64, hi: f64) -> bool
     ensures { λ r. ⌜ r ≡ onBound x lo hi ⌝ }
 {
-    step::either(x == lo, x == hi)
+    num::either(x == lo, x == hi)
 }
 
 fn active(x: [f64; 4], lo: [f64; 4], hi: [f64; 4]) -> [bool; 4]

@@ -1,14 +1,7 @@
 // What a byte is as a digit.
 ghost use mathlib.Core.Path.{_≡_};
-ghost use mathlib.Core.Bool.{_||_};
 ghost use Prim.Native.Nat.{_-_, _≤_};
 ghost use Rattle.form.specs.Read.{isDigit, isHex, hexValue};
-
-pub fn either(a: bool, b: bool) -> bool
-    ensures { λ r. ⌜ r ≡ (a || b) ⌝ }
-{
-    if a { true } else { b }
-}
 
 pub fn is_digit(c: u8) -> bool
     ensures { λ r. ⌜ r ≡ isDigit c ⌝ }
@@ -21,7 +14,7 @@ pub fn is_hex(c: u8) -> bool
 {
     let decimal = is_digit(c);
     let letter = num::both(97 <= c, c <= 102);
-    either(decimal, letter)
+    num::either(decimal, letter)
 }
 
 fn wide(c: u8) -> u64

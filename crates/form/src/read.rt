@@ -20,7 +20,7 @@ pub struct Values {
 fn is_hole(c: u8) -> bool
     ensures { λ r. ⌜ r ≡ isHole c ⌝ }
 {
-    crate::digits::either(c == 35, c == 37)
+    num::either(c == 35, c == 37)
 }
 
 fn with_value(values: [u64; 16], n: usize, hole: bool, v: u64) -> [u64; 16]

@@ -1,6 +1,6 @@
 // Helpers on f64 that Rust has as methods. Each contract is a definition that a caller rewrites by.
 ghost use mathlib.Core.Path.{_≡_};
-ghost use mathlib.Core.Bool.{_&&_, cond};
+ghost use mathlib.Core.Bool.{_&&_, _||_, cond};
 ghost use mathlib.Core.List.{[], _∷_};
 ghost use lib.Ieee.{nan};
 ghost use Rattle.num.specs.F64.{infinity·};
@@ -50,7 +50,7 @@ pub fn clamp(x: f64, low: f64, high: f64) -> f64
     if high < x { high } else { x }
 }
 
-// A choice by a bool, and a test of two: as calls, they leave no place where ways meet.
+// A choice by a bool, and tests of two: as calls, they leave no place where ways meet.
 pub fn pick(t: bool, a: f64, b: f64) -> f64
     ensures { λ r. ⌜ r ≡ cond t a b ⌝ }
 {
@@ -61,6 +61,12 @@ pub fn both(a: bool, b: bool) -> bool
     ensures { λ r. ⌜ r ≡ (a && b) ⌝ }
 {
     if a { b } else { false }
+}
+
+pub fn either(a: bool, b: bool) -> bool
+    ensures { λ r. ⌜ r ≡ (a || b) ⌝ }
+{
+    if a { true } else { b }
 }
 
 pub fn powi(x: f64, k: u32) -> f64

@@ -8,7 +8,6 @@ use lib.Ieee.{Float, nan}
 use Rattle.work.specs.Ended.{numberOf, reasonOf}
 use Rattle.descent.specs.Status.{numberOf as Status·numberOf}
 use Rattle.objective.specs.declared.sum.Objective.{Objective}
-use Rattle.request.specs.declared.Request.{Request}
 use Rattle.summary.specs.declared.GroupCounts.{GroupCounts}
 use Rattle.summary.specs.declared.Summary.{Summary}
 use Rattle.fit.specs.declared.report.Fit.{Fit}
@@ -26,18 +25,6 @@ given value numbers counts = record { value = value; numbers = numbers; counts =
 -- where the length of an argument is wrong or a buffer is too short: 1, and nothing is written
 abbrev unwritten : List Float → List ℕ → Given
 unwritten numbers counts = given 1 numbers counts
-
--- low, high and start: of both means, then of both SDs
-abbrev pub requestOf : List Float → Float → ℕ → ℕ → ℕ → Request
-requestOf b tolerance evaluations iterations quadrature =
-    record {
-      mean = record { low = getD b 0 nan ∷ getD b 3 nan ∷ []; high = getD b 1 nan ∷ getD b 4 nan ∷ []; start = getD b 2 nan ∷ getD b 5 nan ∷ [] };
-      sd = record { low = getD b 6 nan ∷ getD b 9 nan ∷ []; high = getD b 7 nan ∷ getD b 10 nan ∷ []; start = getD b 8 nan ∷ getD b 11 nan ∷ [] };
-      evaluations = record { 0 = evaluations };
-      iterations = record { 0 = iterations };
-      quadrature = record { 0 = quadrature };
-      tolerance = tolerance;
-    }
 
 -- ---- a fit
 

@@ -16,9 +16,10 @@ ghost use Rattle.fit.specs.Fit.{fitOf};
 ghost use Rattle.form.specs.Written.{written};
 ghost use Rattle.objective.specs.Objective.{objectiveOf};
 ghost use Rattle.summary.specs.Summary.{summaryOf};
+ghost use Rattle.request.specs.Request.{requestOf};
 ghost use Rattle.text.specs.Answer.{answerText};
 ghost use Rattle.print.specs.Room.{room};
-ghost use Rattle.probit.specs.Interface.{requestOf, given, fitRoom, fitNumbers, fitCounts, fitPut, fitGiven, objectiveRoom, pointOf, objectiveNumbers, objectiveCounts, objectivePut, objectiveGiven, summaryCounts, summaryPut, summaryGiven};
+ghost use Rattle.probit.specs.Interface.{given, fitRoom, fitNumbers, fitCounts, fitPut, fitGiven, objectiveRoom, pointOf, objectiveNumbers, objectiveCounts, objectivePut, objectiveGiven, summaryCounts, summaryPut, summaryGiven};
 
 fn request(b: &[f64], tolerance: f64, evaluations: u64, iterations: u64, quadrature: u64) -> Request
     requires { ⌜ length (now b) ≡ 12 ⌝ }

@@ -1,4 +1,4 @@
--- What a fit's request has to satisfy. All of it is InvalidInput, so the order of the tests cannot be seen.
+-- A fit's request, and what it has to satisfy. All of it is InvalidInput, so the order of the tests cannot be seen.
 use mathlib.Core.Bool.{Bool, _&&_, cond}
 use mathlib.Core.List.{List, [], _∷_}
 use Prim.Native.Nat.{ℕ, zero, suc, _+_}
@@ -10,6 +10,18 @@ use Rattle.num.specs.Helpers.{isFinite, powiOf}
 use Rattle.objective.specs.Litters.{countOf, groupAt, validLitters}
 use Rattle.request.specs.declared.Bounds.{Bounds}
 use Rattle.request.specs.declared.Request.{Request}
+
+-- A request of its numbers: twelve bounds, low, high and start of both means, then of both SDs; the tolerance; the limits.
+abbrev pub requestOf : List Float → Float → ℕ → ℕ → ℕ → Request
+requestOf b tolerance evaluations iterations quadrature =
+    record {
+      mean = record { low = getD b 0 nan ∷ getD b 3 nan ∷ []; high = getD b 1 nan ∷ getD b 4 nan ∷ []; start = getD b 2 nan ∷ getD b 5 nan ∷ [] };
+      sd = record { low = getD b 6 nan ∷ getD b 9 nan ∷ []; high = getD b 7 nan ∷ getD b 10 nan ∷ []; start = getD b 8 nan ∷ getD b 11 nan ∷ [] };
+      evaluations = record { 0 = evaluations };
+      iterations = record { 0 = iterations };
+      quadrature = record { 0 = quadrature };
+      tolerance = tolerance;
+    }
 
 abbrev pub finiteThree : Float → Float → Float → Bool
 finiteThree a b c = isFinite a && (isFinite b && isFinite c)

@@ -102,7 +102,7 @@ fn judged(
     let before = norm_at(lo, hi, x, v);
     let after = norm_at(lo, hi, next, c);
     let rounded = is_rounding(v.nll, slope, c.nll, before, after);
-    if step::either(is_decrease(v.nll, slope, c.nll), rounded) {
+    if num::either(is_decrease(v.nll, slope, c.nll), rounded) {
         return Attempt {
             end: Ending::Answered,
             used,
@@ -137,7 +137,7 @@ fn tried(
     let more = FitEvaluations(raised);
     let next = step::candidate(x, d, alpha, lo, hi);
     let slope = step::slope(gradient, next, x);
-    if step::either(0.0 <= slope, step::still(next, x)) {
+    if num::either(0.0 <= slope, step::still(next, x)) {
         return nothing(Ending::Answered, used, made);
     }
     let o = objective::limited_objective(

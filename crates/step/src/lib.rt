@@ -1,6 +1,5 @@
 // `project`, `norm`, the direction and the candidate of the source. Coordinates are two means, then two variances; the Hessian stands by rows.
 ghost use mathlib.Core.Path.{_≡_};
-ghost use mathlib.Core.Bool.{_||_};
 ghost use Prim.Native.Nat.{_<_};
 ghost use Rattle.step.specs.Step.{projectAt, projectOf, normOf, dampingOf, newtonOf, heldOf, aloneOf, groupStep, finiteFour, dotOf, safeOf, directionOf, candidateOf, slopeOf, stillOf};
 
@@ -68,16 +67,10 @@ fn newton(a: f64, b: f64, c: f64, g: f64, h: f64) -> Move
     }
 }
 
-pub fn either(a: bool, b: bool) -> bool
-    ensures { λ r. ⌜ r ≡ (a || b) ⌝ }
-{
-    if a { true } else { b }
-}
-
 fn held(x: f64, g: f64, lo: f64, hi: f64) -> bool
     ensures { λ r. ⌜ r ≡ heldOf x g lo hi ⌝ }
 {
-    num::both(g == 0.0, either(x == lo, x == hi))
+    num::both(g == 0.0, num::either(x == lo, x == hi))
 }
 
 fn alone(first: bool, second: bool, a: f64, b: f64, g: f64, h: f64, m: Move) -> Move
@@ -137,7 +130,7 @@ fn safe(g: [f64; 4], d: [f64; 4]) -> [f64; 4]
     ensures { λ r. ⌜ r ≡ safeOf g d ⌝ }
 {
     let finite = finite_four(d);
-    if either(!finite, 0.0 <= dot(g, d)) {
+    if num::either(!finite, 0.0 <= dot(g, d)) {
         return [-g[0], -g[1], -g[2], -g[3]];
     }
     d

@@ -18,7 +18,7 @@ use Rattle.read.specs.declared.Asking.{Asking}
 use Rattle.read.specs.Request.{Asked, asked, form, readRequest}
 use Rattle.read.specs.Rows.{putLitter, putLitters, keptOf, requestSays}
 use Rattle.print.specs.Answer.{refusalText, fitText}
-use Rattle.text.specs.Answer.{requestOf, littersOf, answerTo, answerText}
+use Rattle.text.specs.Answer.{requestIn, littersOf, answerTo, answerText}
 
 -- ---- a number of its bits
 
@@ -96,9 +96,9 @@ module _ (b buf : List ℕ) (a : Asking) where
   many-of (asked vs ls) s f h =
       let e : a .count ≡ 0 + length ls = cc (rw f at s) in
       let m : 128 < countOf (littersOf ls) = omega (arith, count-litters ls) in
-      rw (many-refused (requestOf vs) (littersOf ls) m)
+      rw (many-refused (requestIn vs) (littersOf ls) m)
 
-  fit-of : (q : Asked) → requestSays a buf ≡ keptOf b 0 q → a .fits ≡ true → length b ≡ 384 → a .count ≤ 128 → answerTo q ≡ fitText (fitOf (requestOf (a .values)) (take (3 * a .count) buf))
+  fit-of : (q : Asked) → requestSays a buf ≡ keptOf b 0 q → a .fits ≡ true → length b ≡ 384 → a .count ≤ 128 → answerTo q ≡ fitText (fitOf (requestIn (a .values)) (take (3 * a .count) buf))
   fit-of (form k) s f l h = let z : _≡_ {A = ℕ} 0 1 = cc (rw f at s) in absurd (omega arith)
   fit-of (asked vs ls) s f l h =
       let e : a .count ≡ 0 + length ls = cc (rw f at s) in
@@ -122,6 +122,6 @@ module _ (b buf : List ℕ) (a : Asking) where
     unfolding answerText
     answer-many f h = sym (many-of (readRequest text) s (not-false (a .fits) f) h)
 
-    pub answer-fit : not (a .fits) ≡ false → length b ≡ 384 → a .count ≤ 128 → fitText (fitOf (requestOf (a .values)) (take (3 * a .count) buf)) ≡ answerText text
+    pub answer-fit : not (a .fits) ≡ false → length b ≡ 384 → a .count ≤ 128 → fitText (fitOf (requestIn (a .values)) (take (3 * a .count) buf)) ≡ answerText text
     unfolding answerText
     answer-fit f l h = sym (fit-of (readRequest text) s (not-false (a .fits) f) l h)

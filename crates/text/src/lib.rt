@@ -12,7 +12,7 @@ ghost use Rattle.num.specs.F64.{bits as F64·bits};
 ghost use Rattle.fit.specs.Fit.{fitOf};
 ghost use Rattle.form.specs.Written.{written};
 ghost use Rattle.print.specs.Answer.{fitText};
-ghost use Rattle.text.specs.Answer.{requestOf, answerText};
+ghost use Rattle.text.specs.Answer.{requestIn, answerText};
 ghost use Rattle.print.specs.Room.{room};
 
 // Any NaN's bits give a NaN.
@@ -37,7 +37,7 @@ fn bounds(a: u64, b: u64, c: u64, d: u64, e: u64, f: u64) -> Bounds
 }
 
 pub fn request(v: [u64; 16]) -> Request
-    ensures { λ r. ⌜ r ≡ requestOf v ⌝ }
+    ensures { λ r. ⌜ r ≡ requestIn v ⌝ }
 {
     Request {
         mean: bounds(v[0], v[1], v[2], v[3], v[4], v[5]),

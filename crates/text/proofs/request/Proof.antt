@@ -1,11 +1,11 @@
 -- `text::request` meets its contract.
 use borrow.Author.Needs.{needs}
-use Rattle.text.specs.Answer.{requestOf}
+use Rattle.text.specs.Answer.{requestIn}
 use Rattle.text.proofs.request.Statement.{statement}
 use Rattle.text.proofs.request.Tie as tie
 
 pub request-spec : {M : Type 1} → statement M
-unfolding requestOf
+unfolding requestIn
 request-spec =
     tie.close
     (tie.spec
