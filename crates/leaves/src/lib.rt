@@ -1,7 +1,6 @@
 // The inner functions for comparisons from outside: numbers in, results into buffers that the caller lends.
 // The status is 1 where a buffer is too short, and then nothing is written; else 0.
-mod put;
-
+use legendre::Pair;
 use work::QuadratureEvaluations;
 ghost use mathlib.Core.Path.{_≡_};
 ghost use Rattle.tail.specs.Tail.{tailBoundOf};
@@ -30,7 +29,7 @@ pub extern "C" fn leaf_mills(x: f64, r: f64, out: &mut [f64]) -> u64
         return 1;
     }
     let m = normal::moments::mills_derivatives(x, r);
-    crate::put::numbers(&m, out);
+    put::numbers(&m, out);
     0
 }
 
@@ -55,8 +54,19 @@ pub extern "C" fn leaf_conditional(eta: f64, successes: u32, total: u32, out: &m
         m[4],
         m[5],
     ];
-    crate::put::numbers(&v, out);
+    put::numbers(&v, out);
     0
+}
+
+// The buffer keeps its length.
+fn pairs(rule: [Pair; 16], out: &mut [f64])
+    requires { ⌜ 32 ≤ length (now out) ⌝ }
+{
+    for i in 0..16usize {
+        let n = rule[i];
+        out[2 * i] = n.x;
+        out[2 * i + 1] = n.w;
+    }
 }
 
 // Sixteen nodes, each with its weight after it.
@@ -68,7 +78,7 @@ pub extern "C" fn leaf_legendre(out: &mut [f64]) -> u64
         return 1;
     }
     let rule = legendre::legendre();
-    crate::put::pairs(rule, out);
+    pairs(rule, out);
     0
 }
 
@@ -113,8 +123,9 @@ pub extern "C" fn leaf_row(
     let h = r.hessian;
     let end = r.end;
     let v = [r.nll, g[0], g[1], h[0], h[1], h[2], h[3], r.refinement];
-    crate::put::numbers(&v, out);
-    crate::put::counts(work::number(end), work::reason(end), r.used.0, counts);
+    put::numbers(&v, out);
+    let c = [work::number(end), work::reason(end), r.used.0];
+    put::counts(&c, counts);
     0
 }
 
@@ -146,34 +157,10 @@ pub extern "C" fn leaf_objective(
         litters,
         QuadratureEvaluations(limit),
     );
-    let g = o.gradient;
-    let h = o.hessian;
     let end = o.end;
-    let v = [
-        o.nll,
-        g[0],
-        g[1],
-        g[2],
-        g[3],
-        h[0],
-        h[1],
-        h[2],
-        h[3],
-        h[4],
-        h[5],
-        h[6],
-        h[7],
-        h[8],
-        h[9],
-        h[10],
-        h[11],
-        h[12],
-        h[13],
-        h[14],
-        h[15],
-        o.refinement,
-    ];
-    crate::put::numbers(&v, out);
-    crate::put::counts(work::number(end), work::reason(end), o.used.0, counts);
+    let v = buffers::objective_numbers(o);
+    put::numbers(&v, out);
+    let c = [work::number(end), work::reason(end), o.used.0];
+    put::counts(&c, counts);
     0
 }

@@ -1,6 +1,5 @@
 // The interface for hosts: numbers and slices in, answers into buffers that the host lends; for hosts in Rattle, litters as lent records.
 pub mod interface;
-mod put;
 
 pub use records::Litter;
 pub use records::fit_probit_normal_binomial;

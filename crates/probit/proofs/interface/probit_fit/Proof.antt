@@ -1,7 +1,7 @@
 -- `interface::probit_fit` meets its contract: a wrong length, or the fit put into the buffers.
 use Rattle.num.specs.Choose.{choose}
-use Rattle.probit.specs.Interface.{fitRoom, fitGiven}
-use Rattle.probit.proofs.InterfaceLaws.{room-length, room-numbers, room-counts, fit-is}
+use Rattle.buffers.specs.Buffers.{fitRoom, fitGiven}
+use Rattle.probit.proofs.Laws.{room-length, room-numbers, room-counts, fit-is}
 use borrow.Author.Needs.{needs}
 use Rattle.probit.proofs.interface.probit_fit.Statement.{statement}
 use Rattle.probit.proofs.interface.probit_fit.Tie as tie

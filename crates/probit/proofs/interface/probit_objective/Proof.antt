@@ -1,7 +1,7 @@
 -- `interface::probit_objective` meets its contract: a wrong length, or the objective put into the buffers.
 use Rattle.num.specs.Choose.{choose}
-use Rattle.probit.specs.Interface.{objectiveRoom, objectiveGiven}
-use Rattle.probit.proofs.InterfaceLaws.{room-length, room-numbers, room-counts, objective-is}
+use Rattle.buffers.specs.Buffers.{objectiveRoom, objectiveGiven}
+use Rattle.probit.proofs.Laws.{room-length, room-numbers, room-counts, objective-is}
 use borrow.Author.Needs.{needs}
 use Rattle.probit.proofs.interface.probit_objective.Statement.{statement}
 use Rattle.probit.proofs.interface.probit_objective.Tie as tie

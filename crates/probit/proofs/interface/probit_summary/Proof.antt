@@ -1,7 +1,7 @@
 -- `interface::probit_summary` meets its contract: a short buffer, or the summary put into it.
 use Rattle.num.specs.Choose.{choose}
-use Rattle.probit.specs.Interface.{summaryGiven}
-use Rattle.probit.proofs.InterfaceLaws.{summary-is}
+use Rattle.buffers.specs.Buffers.{summaryGiven}
+use Rattle.probit.proofs.Laws.{summary-is}
 use borrow.Author.Needs.{needs}
 use Rattle.probit.proofs.interface.probit_summary.Statement.{statement}
 use Rattle.probit.proofs.interface.probit_summary.Tie as tie

@@ -1,0 +1,23 @@
+-- What is put is the definition's: v and w are the values, m and d the buffers after.
+use mathlib.Core.Path.{_≡_}
+use mathlib.Core.List.{List, []}
+use Prim.Native.Nat.{ℕ}
+use lib.Ieee.{Float}
+use Rattle.work.specs.Ended.{numberOf}
+use Rattle.objective.specs.declared.sum.Objective.{Objective}
+use Rattle.summary.specs.declared.Summary.{Summary}
+use Rattle.fit.specs.declared.report.Fit.{Fit}
+use Rattle.put.specs.Stored.{stored}
+use Rattle.buffers.specs.Buffers.{given, fitNumbers, fitCounts, fitPut, objectiveNumbers, objectiveCounts, objectivePut, summaryCounts, summaryPut}
+
+pub put-fit-is : (f : Fit) (l m v : List Float) (c d w : List ℕ) (r : ℕ) → v ≡ fitNumbers f → w ≡ fitCounts f → m ≡ stored l v → d ≡ stored c w → r ≡ numberOf (f .end) → given r m d ≡ fitPut f l c
+unfolding fitPut
+put-fit-is f l m v c d w r a b p q e = rw (p, q, e, a, b)
+
+pub put-objective-is : (o : Objective) (l m v : List Float) (c d w : List ℕ) (r : ℕ) → v ≡ objectiveNumbers o → w ≡ objectiveCounts o → m ≡ stored l v → d ≡ stored c w → r ≡ numberOf (o .end) → given r m d ≡ objectivePut o l c
+unfolding objectivePut
+put-objective-is o l m v c d w r a b p q e = rw (p, q, e, a, b)
+
+pub put-summary-is : (s : Summary) (c d w : List ℕ) (r : ℕ) → w ≡ summaryCounts s → d ≡ stored c w → r ≡ numberOf (s .end) → given r [] d ≡ summaryPut s c
+unfolding summaryPut
+put-summary-is s c d w r b q e = rw (q, e, b)

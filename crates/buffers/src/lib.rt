@@ -1,0 +1,145 @@
+// What an answer puts into the buffers that a host lends: numbers, then counts.
+use fit::Fit;
+use objective::Objective;
+use summary::Summary;
+ghost use mathlib.Core.Path.{_≡_};
+ghost use mathlib.Core.Bool.{cond};
+ghost use mathlib.Core.List.{[]};
+ghost use Prim.Native.Nat.{_≤_};
+ghost use lib.ListN.{length};
+ghost use Rattle.buffers.specs.Buffers.{given, fitRoom, fitNumbers, fitCounts, fitPut, objectiveRoom, objectiveNumbers, objectiveCounts, objectivePut, summaryCounts, summaryPut};
+
+pub fn fit_room(bounds: usize, numbers: usize, counts: usize) -> bool
+    ensures { λ r. ⌜ r ≡ fitRoom bounds numbers counts ⌝ }
+{
+    num::both(bounds == 12, num::both(6 <= numbers, 10 <= counts))
+}
+
+fn fit_numbers(f: Fit) -> [f64; 6]
+    ensures { λ r. ⌜ r ≡ fitNumbers f ⌝ }
+{
+    let means = f.means;
+    let sds = f.sds;
+    [means[0], means[1], sds[0], sds[1], f.nll, f.norm]
+}
+
+fn mark(on: bool) -> u64
+    ensures { λ r. ⌜ r ≡ cond on 1 0 ⌝ }
+{
+    if on { 1 } else { 0 }
+}
+
+fn fit_counts(f: Fit) -> [u64; 10]
+    ensures { λ r. ⌜ r ≡ fitCounts f ⌝ }
+{
+    let status = f.status;
+    let end = f.end;
+    let on = f.active;
+    [
+        descent::number(status),
+        f.evaluations.0,
+        f.iterations.0,
+        f.quadrature.0,
+        f.litters,
+        work::reason(end),
+        mark(on[0]),
+        mark(on[1]),
+        mark(on[2]),
+        mark(on[3]),
+    ]
+}
+
+pub fn put_fit(f: Fit, numbers: &mut [f64], counts: &mut [u64]) -> u64
+    requires { ⌜ (6 ≤ length (now numbers)) × (10 ≤ length (now counts)) ⌝ }
+    ensures { λ r. ⌜ given r (now (numbers .exit)) (now (counts .exit)) ≡ fitPut f (now (numbers .entry)) (now (counts .entry)) ⌝ }
+{
+    let n = fit_numbers(f);
+    let c = fit_counts(f);
+    let end = f.end;
+    put::numbers(&n, numbers);
+    put::counts(&c, counts);
+    work::number(end)
+}
+
+pub fn objective_room(point: usize, numbers: usize, counts: usize) -> bool
+    ensures { λ r. ⌜ r ≡ objectiveRoom point numbers counts ⌝ }
+{
+    num::both(point == 4, num::both(22 <= numbers, 2 <= counts))
+}
+
+pub fn objective_numbers(o: Objective) -> [f64; 22]
+    ensures { λ r. ⌜ r ≡ objectiveNumbers o ⌝ }
+{
+    let g = o.gradient;
+    let h = o.hessian;
+    [
+        o.nll,
+        g[0],
+        g[1],
+        g[2],
+        g[3],
+        h[0],
+        h[1],
+        h[2],
+        h[3],
+        h[4],
+        h[5],
+        h[6],
+        h[7],
+        h[8],
+        h[9],
+        h[10],
+        h[11],
+        h[12],
+        h[13],
+        h[14],
+        h[15],
+        o.refinement,
+    ]
+}
+
+fn objective_counts(o: Objective) -> [u64; 2]
+    ensures { λ r. ⌜ r ≡ objectiveCounts o ⌝ }
+{
+    let end = o.end;
+    [o.used.0, work::reason(end)]
+}
+
+pub fn put_objective(o: Objective, numbers: &mut [f64], counts: &mut [u64]) -> u64
+    requires { ⌜ (22 ≤ length (now numbers)) × (2 ≤ length (now counts)) ⌝ }
+    ensures { λ r. ⌜ given r (now (numbers .exit)) (now (counts .exit)) ≡ objectivePut o (now (numbers .entry)) (now (counts .entry)) ⌝ }
+{
+    let n = objective_numbers(o);
+    let c = objective_counts(o);
+    let end = o.end;
+    put::numbers(&n, numbers);
+    put::counts(&c, counts);
+    work::number(end)
+}
+
+fn summary_counts(s: Summary) -> [u64; 8]
+    ensures { λ r. ⌜ r ≡ summaryCounts s ⌝ }
+{
+    let a = s.first;
+    let b = s.second;
+    [
+        a.litters,
+        a.successes,
+        a.trials,
+        a.extreme,
+        b.litters,
+        b.successes,
+        b.trials,
+        b.extreme,
+    ]
+}
+
+pub fn put_summary(s: Summary, counts: &mut [u64]) -> u64
+    requires { ⌜ 8 ≤ length (now counts) ⌝ }
+    ensures { λ r. ⌜ given r [] (now (counts .exit)) ≡ summaryPut s (now (counts .entry)) ⌝ }
+{
+    let c = summary_counts(s);
+    let end = s.end;
+    put::counts(&c, counts);
+    work::number(end)
+}

@@ -1,0 +1,53 @@
+-- The laws of the exported functions.
+use mathlib.Core.Path.{_≡_, refl}
+use mathlib.Core.Bool.{Bool, true, false, not, _&&_}
+use mathlib.Core.List.{List, []}
+use Prim.Native.Nat.{ℕ, _≤_}
+use native.Mathlib.Omega.{arith}
+use borrow.Author.Tests.{eqb-true, leb-true}
+use lib.Dec.{eqb, leb}
+use lib.Ieee.{Float}
+use Rattle.num.specs.Choose.{by-not-true}
+use Rattle.objective.specs.declared.sum.Objective.{Objective}
+use Rattle.objective.specs.Objective.{objectiveOf}
+use Rattle.summary.specs.declared.Summary.{Summary}
+use Rattle.summary.specs.Summary.{summaryOf}
+use Rattle.request.specs.declared.Request.{Request}
+use Rattle.fit.specs.declared.report.Fit.{Fit}
+use Rattle.fit.specs.Fit.{fitOf}
+use Rattle.buffers.specs.Buffers.{Given, fitPut, objectivePut, summaryPut}
+
+-- ---- a test of three lengths that passed
+left : (a b : Bool) → (a && b) ≡ true → a ≡ true
+left true b h = refl
+left false b h = h
+
+right : (a b : Bool) → (a && b) ≡ true → b ≡ true
+right true b h = h
+right false b h = let z : _≡_ {A = ℕ} 0 1 = cc in absurd (omega arith)
+
+module _ (k n c b p q : ℕ) (t : Bool) (e : t ≡ (eqb b k && (leb n p && leb c q))) (h : not t ≡ false) where
+  all : (eqb b k && (leb n p && leb c q)) ≡ true
+  all = by-not-true t _ e h
+
+  both : (leb n p && leb c q) ≡ true
+  both = right (eqb b k) (leb n p && leb c q) all
+
+  pub room-length : b ≡ k
+  room-length = eqb-true b k (left (eqb b k) (leb n p && leb c q) all)
+
+  pub room-numbers : n ≤ p
+  room-numbers = leb-true n p (left (leb n p) (leb c q) both)
+
+  pub room-counts : c ≤ q
+  room-counts = leb-true c q (right (leb n p) (leb c q) both)
+
+-- ---- what is put is the definition's answer
+pub fit-is : (g : Given) (f : Fit) (r q : Request) (ls : List ℕ) (l : List Float) (c : List ℕ) → g ≡ fitPut f l c → f ≡ fitOf r ls → r ≡ q → g ≡ fitPut (fitOf q ls) l c
+fit-is g f r q ls l c p e h = rw (← h, ← e) p
+
+pub objective-is : (g : Given) (o : Objective) (x y : List Float) (ls : List ℕ) (l : List Float) (c : List ℕ) → g ≡ objectivePut o l c → o ≡ objectiveOf x ls → x ≡ y → g ≡ objectivePut (objectiveOf y ls) l c
+objective-is g o x y ls l c p e h = rw (← h, ← e) p
+
+pub summary-is : (g : Given) (s : Summary) (ls c : List ℕ) → g ≡ summaryPut s c → s ≡ summaryOf ls → g ≡ summaryPut (summaryOf ls) c
+summary-is g s ls c p e = rw (← e) p

@@ -1,0 +1,23 @@
+// Values stored into a lent buffer from its start on.
+ghost use mathlib.Core.Path.{_≡_};
+ghost use Prim.Native.Nat.{_≤_};
+ghost use lib.ListN.{length};
+ghost use Rattle.put.specs.Stored.{stored};
+
+pub fn numbers(v: &[f64], out: &mut [f64])
+    requires { ⌜ length (now v) ≤ length (now out) ⌝ }
+    ensures { λ r. ⌜ now (out .exit) ≡ stored (now (out .entry)) (now (v .entry)) ⌝ }
+{
+    for i in 0..v.len() {
+        out[i] = v[i];
+    }
+}
+
+pub fn counts(v: &[u64], out: &mut [u64])
+    requires { ⌜ length (now v) ≤ length (now out) ⌝ }
+    ensures { λ r. ⌜ now (out .exit) ≡ stored (now (out .entry)) (now (v .entry)) ⌝ }
+{
+    for i in 0..v.len() {
+        out[i] = v[i];
+    }
+}
