@@ -2,7 +2,7 @@
 use mathlib.Core.Path.{_≡_, sym, _∙_}
 use mathlib.Core.Bool.{Bool, true, false, cond, _&&_}
 use mathlib.Core.List.{List, [], _∷_}
-use Prim.Native.Nat.{ℕ, _+_, _-_, _≤_, _<_, zero-le}
+use Prim.Native.Nat.{ℕ, _-_, _≤_, zero-le}
 use borrow.Author.Tests.{leb-true}
 use lib.Dec.{leb}
 use lib.ListN.{getD}
@@ -20,11 +20,11 @@ use Rattle.objective.specs.Objective.{objective, limitedOf}
 use Rattle.objective.specs.Litters.{countOf}
 use Rattle.request.specs.declared.Request.{Request}
 use Rattle.search.specs.declared.Plan.{Plan}
-use Rattle.fit.specs.declared.descend.Descent.{Descent}
+use Rattle.turns.specs.declared.Descent.{Descent}
 use Rattle.fit.specs.declared.report.Fit.{Fit}
 use Rattle.request.specs.Request.{upTo, admits, validBoxes, validControls, validLimit, startOf, lowOf, highOf}
 use Rattle.search.specs.Search.{normAt, totalsIn}
-use Rattle.fit.specs.Descend.{refusalOf, descentFrom, descentOf, noDescended}
+use Rattle.turns.specs.Descend.{refusalOf, descentFrom, descentOf, noDescended}
 use Rattle.fit.specs.Fit.{planOf, sdsOf, activeOf, refusedOf, wholeOf, reportedOf, fit, limitedFit, fitOf}
 
 -- ---- the whole descent: the start's objective, and the loop

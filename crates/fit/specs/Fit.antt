@@ -22,11 +22,11 @@ use Rattle.objective.specs.declared.totals.Totals.{Totals}
 use Rattle.objective.specs.Litters.{countOf}
 use Rattle.request.specs.declared.Request.{Request}
 use Rattle.search.specs.declared.Plan.{Plan}
-use Rattle.fit.specs.declared.descend.Descent.{Descent}
+use Rattle.turns.specs.declared.Descent.{Descent}
 use Rattle.fit.specs.declared.report.Fit.{Fit}
 use Rattle.request.specs.Request.{admits, validLimit, startOf, lowOf, highOf}
 use Rattle.search.specs.Search.{normAt, problemOf}
-use Rattle.fit.specs.Descend.{toDescent, noDescended}
+use Rattle.turns.specs.Descend.{toDescent, noDescended}
 
 abbrev pub planOf : Request → Plan
 planOf r = record { lo = lowOf r; hi = highOf r; tolerance = r .tolerance; most = r .evaluations; turns = r .iterations; limit = r .quadrature }

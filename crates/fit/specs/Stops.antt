@@ -1,16 +1,13 @@
 -- How a fit stops: crates/descent's rule at this objective. For every answered fit the status is the one that the reported norm and counts decide.
-use mathlib.Core.Path.{_≡_, refl}
-use mathlib.Core.Bool.{Bool, true, false, cond}
+use mathlib.Core.Path.{_≡_}
 use mathlib.Core.List.{List}
 use Prim.Native.Nat.{ℕ, _≤_}
-use lib.Ieee.{Float}
 use Rattle.work.specs.Ended.{done}
-use Rattle.work.specs.Work.{Work, ret, _>>=_, run, runL}
-use Rattle.work.specs.Always.{Always, holds, refuses, tested, passed, of-run, of-runL}
+use Rattle.work.specs.Work.{runL}
+use Rattle.work.specs.Always.{Always, holds, refuses, tested, passed, of-runL}
 use Rattle.legendre.specs.Legendre.{legendreOf}
-use Rattle.posterior.specs.declared.integrand.Point.{Point}
-use Rattle.posterior.specs.Integrand.{Eval, at}
-use Rattle.descent.specs.Stopping.{statusOf, Stopped, stops}
+use Rattle.posterior.specs.Integrand.{at}
+use Rattle.descent.specs.Stopping.{statusOf, stops}
 use Rattle.request.specs.declared.Request.{Request}
 use Rattle.request.specs.Request.{admits, startOf}
 use Rattle.search.specs.Search.{problemOf}

@@ -1,9 +1,9 @@
 // The fit of a request, and its report.
-use crate::descend::Descent;
 use descent::Status;
 use legendre::Pair;
 use request::Request;
 use search::Plan;
+use turns::Descent;
 use work::Ending;
 use work::FitEvaluations;
 use work::Iterations;
@@ -13,7 +13,7 @@ ghost use Prim.Native.Nat.{_^_, _<_};
 ghost use Rattle.legendre.specs.Legendre.{legendreOf};
 ghost use Rattle.objective.specs.Litters.{countOf};
 ghost use Rattle.request.specs.Request.{startOf};
-ghost use Rattle.fit.specs.Fit.{planOf, sdOf, sdsOf, onBound, activeOf, refusedOf, wholeOf, reportedOf, fitOf};
+ghost use Rattle.fit.specs.Fit.{planOf, sdsOf, onBound, activeOf, refusedOf, wholeOf, reportedOf, fitOf};
 
 // `active` marks the coordinates that lie on a bound: two means, then two variances.
 pub struct Fit {
@@ -135,9 +135,9 @@ fn whole(litters: &[u32], rule: [Pair; 16], p: Plan, x: [f64; 4]) -> Descent
     let end = o.end;
     let used = o.used;
     if work::refused(end) {
-        return crate::descend::refusal(end, used);
+        return turns::refusal(end, used);
     }
-    crate::descend::descend(litters, rule, p, x, search::totals_of(o), used)
+    turns::descend(litters, rule, p, x, search::totals_of(o), used)
 }
 
 fn fit_admitted(r: Request, litters: &[u32]) -> Fit

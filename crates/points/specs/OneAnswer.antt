@@ -44,7 +44,7 @@ use Rattle.request.specs.Request.{upTo, admits, startOf, lowOf, highOf}
 use Rattle.step.specs.Step.{projectOf, normOf, directionOf, candidateOf, slopeOf, stillOf}
 use Rattle.search.specs.declared.Attempt.{Attempt}
 use Rattle.search.specs.Search.{totalsIn, normAt}
-use Rattle.fit.specs.Descend.{refusalOf, descentOf}
+use Rattle.turns.specs.Descend.{refusalOf, descentOf}
 use Rattle.fit.specs.Fit.{fitOf}
 use Rattle.records.specs.declared.Litter.{Litter}
 use Rattle.records.specs.Records.{numbersOf}

@@ -1,15 +1,15 @@
--- `descend::descend` meets its contract, as the steps still to come make of the point and the counts so far the whole descent.
+-- `turns::descend` meets its contract, as the steps still to come make of the point and the counts so far the whole descent.
 use mathlib.Core.Path.{_≡_, refl}
 use Prim.Native.Nat.{_-_, _≤_, zero-le}
 use native.Mathlib.Nat.{sub-zero}
 use native.Mathlib.Omega.{arith}
 use borrow.Author.Tests.{not-true, not-false}
 use Rattle.num.specs.Choose.{by-call}
-use Rattle.fit.specs.Descend.{descentOf}
-use Rattle.fit.proofs.DescendLaws.{Left, begins, searched-fits, descend-near, descend-spent, descend-stops, descend-fails, descend-turn, descend-done}
+use Rattle.turns.specs.Descend.{descentOf}
+use Rattle.turns.proofs.Laws.{Left, begins, searched-fits, descend-near, descend-spent, descend-stops, descend-fails, descend-turn, descend-done}
 use borrow.Author.Needs.{needs}
-use Rattle.fit.proofs.descend.descend.Statement.{statement}
-use Rattle.fit.proofs.descend.descend.Tie as tie
+use Rattle.turns.proofs.descend.Statement.{statement}
+use Rattle.turns.proofs.descend.Tie as tie
 
 abbrev Inv-loop : tie.InvT-loop
 Inv-loop litters rule p lo hi most x₀ v₀ e₀ used₀ k₀ k-end x v e used k = (used .0 ≤ p .limit .0) × (k-end ≡ p .turns .0) × (k ≤ p .turns .0) × Left rule litters p (descentOf rule litters p x₀ v₀ (used₀ .0)) (p .turns .0 - k) x v (e .0) k (used .0)

@@ -1,9 +1,9 @@
--- `descend::last` meets its contract, by its tests and its callees' contracts.
-use Rattle.fit.specs.Descend.{lastOf}
+-- `turns::last` meets its contract, by its tests and its callees' contracts.
+use Rattle.turns.specs.Descend.{lastOf}
 use borrow.Author.Needs.{needs}
 use Rattle.num.specs.Choose.{choose}
-use Rattle.fit.proofs.descend.last.Statement.{statement}
-use Rattle.fit.proofs.descend.last.Tie as tie
+use Rattle.turns.proofs.last.Statement.{statement}
+use Rattle.turns.proofs.last.Tie as tie
 
 pub last-spec : {M : Type 1} → statement M
 unfolding lastOf

@@ -1,6 +1,6 @@
 -- The laws that the proof of the descent's loop goes by: r is what the code answers.
 use mathlib.Core.Path.{_≡_, refl, _∙_}
-use mathlib.Core.Bool.{Bool, true, false, cond}
+use mathlib.Core.Bool.{true, false, cond}
 use mathlib.Core.List.{List, []}
 use Prim.Native.Nat.{ℕ, zero, suc, _+_, _-_, _<_, _≤_}
 use native.Mathlib.Nat.{le-refl}
@@ -8,22 +8,21 @@ use lib.Dec.{leb}
 use lib.Ieee.{Float, le}
 use Rattle.num.specs.F64.{one·}
 use Rattle.num.specs.Left.{left-one, left-none}
-use Rattle.work.specs.declared.Ending.the-variants.{Answered}
 use Rattle.work.specs.Ended.{isRefused, valueOr}
 use Rattle.work.specs.Work.{metered}
 use Rattle.work.specs.Metered.{past, branch, gives, within}
 use Rattle.legendre.specs.declared.Pair.{Pair}
 use Rattle.posterior.specs.Integrand.{at}
 use Rattle.descent.specs.declared.Status.{Status}
-use Rattle.descent.specs.declared.Status.the-variants.{Converged, EvaluationLimit, IterationLimit}
+use Rattle.descent.specs.declared.Status.the-variants.{Converged, EvaluationLimit}
 use Rattle.descent.specs.Descent.{Trial, search, descend}
 use Rattle.objective.specs.declared.totals.Totals.{Totals}
 use Rattle.search.specs.declared.Plan.{Plan}
 use Rattle.search.specs.declared.Attempt.{Attempt}
-use Rattle.fit.specs.declared.descend.Descent.{Descent}
+use Rattle.turns.specs.declared.Descent.{Descent}
 use Rattle.search.specs.Search.{normAt, directionAt, problemOf, noSearched, searchedFrom, searchedOf}
 use Rattle.search.specs.Follows.{by-step}
-use Rattle.fit.specs.Descend.{refusalOf, stoppedOf, failedOf, lastOf, descentFrom, descentOf}
+use Rattle.turns.specs.Descend.{refusalOf, stoppedOf, failedOf, lastOf, descentFrom, descentOf}
 
 module _ (rule : List Pair) (ls : List ℕ) (p : Plan) where
   trialsAt : List Float → Totals → ℕ → List Trial → ℕ → List Trial

@@ -10,7 +10,7 @@ use work::QuadratureEvaluations;
 ghost use mathlib.Core.Path.{_≡_};
 ghost use Prim.Native.Nat.{_^_, _≤_, _<_};
 ghost use Rattle.search.specs.Search.{directionAt};
-ghost use Rattle.fit.specs.Descend.{refusalOf, stoppedOf, failedOf, lastOf, descentOf};
+ghost use Rattle.turns.specs.Descend.{refusalOf, stoppedOf, failedOf, lastOf, descentOf};
 
 // Where a descent stopped, or its refusal.
 pub struct Descent {

@@ -15,7 +15,7 @@ use Rattle.descent.specs.Descent.{Trial, Descended, descend}
 use Rattle.objective.specs.declared.totals.Totals.{Totals}
 use Rattle.objective.specs.Totals.{noTotals}
 use Rattle.search.specs.declared.Plan.{Plan}
-use Rattle.fit.specs.declared.descend.Descent.{Descent}
+use Rattle.turns.specs.declared.Descent.{Descent}
 use Rattle.search.specs.Search.{normAt, problemOf, noWhere}
 
 abbrev pub toDescent : Ending → ℕ → Descended (List Float) Totals → Descent
