@@ -17,8 +17,7 @@ use Rattle.form.specs.Form.{ascii, render}
 use Rattle.form.specs.Width.{length-render}
 use Rattle.form.specs.Written.{written}
 use Rattle.form.specs.WrittenLaws.{written-append}
-use Rattle.print.specs.Answer.{refusalText, statusText, report, reportValues, mark, activeText, reportText, fitText}
-use Rattle.print.specs.Marks.{marksText}
+use Rattle.print.specs.Answer.{refusalText, statusText, report, reportValues, mark, marksText, activeText, reportText, fitText}
 use Rattle.print.specs.Room.{report-width}
 
 -- ---- a number equals itself, a NaN does not

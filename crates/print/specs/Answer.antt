@@ -37,10 +37,12 @@ reportValues f =
 abbrev pub mark : Bool → List ℕ → List ℕ
 mark on text = cond on text []
 
--- the marked coordinates, counted from 0
+-- the marked coordinates in a row, counted from 0
+abbrev pub marksText : Bool → Bool → Bool → Bool → List ℕ
+marksText a b c d = mark a (ascii " 0") ++ (mark b (ascii " 1") ++ (mark c (ascii " 2") ++ mark d (ascii " 3")))
+
 unfoldable pub activeText : Bool → Bool → Bool → Bool → List ℕ
-activeText a b c d =
-    cond (a || (b || (c || d))) (mark a (ascii " 0") ++ (mark b (ascii " 1") ++ (mark c (ascii " 2") ++ mark d (ascii " 3")))) (ascii " none") ++ ascii "\n"
+activeText a b c d = cond (a || (b || (c || d))) (marksText a b c d) (ascii " none") ++ ascii "\n"
 
 unfoldable pub reportText : Fit → List ℕ
 reportText f =

@@ -7,8 +7,7 @@ ghost use Prim.Native.Nat.{_+_, _≤_};
 ghost use lib.ListN.{length};
 ghost use Rattle.num.specs.F64.{bitsOf};
 ghost use Rattle.form.specs.Written.{written};
-ghost use Rattle.print.specs.Answer.{refusalText, statusText, reportValues, mark as Answer·mark, activeText, reportText, fitText};
-ghost use Rattle.print.specs.Marks.{marksText};
+ghost use Rattle.print.specs.Answer.{refusalText, statusText, reportValues, mark as Answer·mark, marksText, activeText, reportText, fitText};
 ghost use Rattle.print.specs.Room.{room};
 
 // A NaN's bits are not a number's: any NaN is written as this one.
