@@ -19,11 +19,11 @@ use Rattle.objective.specs.Totals.{noTotals}
 use Rattle.objective.specs.Objective.{objective, limitedOf}
 use Rattle.objective.specs.Litters.{countOf}
 use Rattle.request.specs.declared.Request.{Request}
-use Rattle.search.specs.declared.Plan.{Plan}
+use Rattle.verdict.specs.declared.Plan.{Plan}
 use Rattle.turns.specs.declared.Descent.{Descent}
 use Rattle.fit.specs.declared.report.Fit.{Fit}
 use Rattle.request.specs.Request.{upTo, admits, validBoxes, validControls, validLimit, startOf, lowOf, highOf}
-use Rattle.search.specs.Search.{normAt, totalsIn}
+use Rattle.verdict.specs.Verdict.{normAt, totalsIn}
 use Rattle.turns.specs.Descend.{refusalOf, descentFrom, descentOf, noDescended}
 use Rattle.fit.specs.Fit.{planOf, sdsOf, activeOf, refusedOf, wholeOf, reportedOf, fit, limitedFit, fitOf}
 

@@ -21,11 +21,12 @@ use Rattle.descent.specs.Descent.{descent}
 use Rattle.objective.specs.declared.totals.Totals.{Totals}
 use Rattle.objective.specs.Litters.{countOf}
 use Rattle.request.specs.declared.Request.{Request}
-use Rattle.search.specs.declared.Plan.{Plan}
+use Rattle.verdict.specs.declared.Plan.{Plan}
 use Rattle.turns.specs.declared.Descent.{Descent}
 use Rattle.fit.specs.declared.report.Fit.{Fit}
 use Rattle.request.specs.Request.{admits, validLimit, startOf, lowOf, highOf}
-use Rattle.search.specs.Search.{normAt, problemOf}
+use Rattle.verdict.specs.Verdict.{normAt}
+use Rattle.search.specs.Search.{problemOf}
 use Rattle.turns.specs.Descend.{toDescent, noDescended}
 
 abbrev pub planOf : Request → Plan

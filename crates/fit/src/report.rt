@@ -2,8 +2,8 @@
 use descent::Status;
 use legendre::Pair;
 use request::Request;
-use search::Plan;
 use turns::Descent;
+use verdict::Plan;
 use work::Ending;
 use work::FitEvaluations;
 use work::Iterations;
@@ -117,7 +117,7 @@ fn reported(r: Request, n: u64, d: Descent) -> Fit
         means: [a, b],
         sds: [first, second],
         nll: v.nll,
-        norm: search::norm_at(lo, hi, x, v),
+        norm: verdict::norm_at(lo, hi, x, v),
         evaluations,
         iterations,
         quadrature,
@@ -137,7 +137,7 @@ fn whole(litters: &[u32], rule: [Pair; 16], p: Plan, x: [f64; 4]) -> Descent
     if work::refused(end) {
         return turns::refusal(end, used);
     }
-    turns::descend(litters, rule, p, x, search::totals_of(o), used)
+    turns::descend(litters, rule, p, x, verdict::totals_of(o), used)
 }
 
 fn fit_admitted(r: Request, litters: &[u32]) -> Fit

@@ -42,8 +42,9 @@ use Rattle.summary.specs.Summary.{extremeOf, noCounts, plusOf, litterCountsOf, 
 use Rattle.request.specs.declared.Request.{Request}
 use Rattle.request.specs.Request.{upTo, admits, startOf, lowOf, highOf}
 use Rattle.step.specs.Step.{projectOf, normOf, directionOf, candidateOf, slopeOf, stillOf}
-use Rattle.search.specs.declared.Attempt.{Attempt}
-use Rattle.search.specs.Search.{totalsIn, normAt}
+use Rattle.verdict.specs.declared.Plan.{Plan}
+use Rattle.verdict.specs.declared.Attempt.{Attempt}
+use Rattle.verdict.specs.Verdict.{nothingOf, totalsIn, normAt, judgedOf}
 use Rattle.turns.specs.Descend.{refusalOf, descentOf}
 use Rattle.fit.specs.Fit.{fitOf}
 use Rattle.records.specs.declared.Litter.{Litter}
@@ -134,9 +135,12 @@ of-request = (one2 _, one2 _, one1 _, one1 _, one1 _)
 pub of-step : One4 projectOf × One1 normOf × One2 _||_ × One5 directionOf × One5 candidateOf × One3 slopeOf × One2 stillOf
 of-step = (one4 _, one1 _, one2 _, one5 _, one5 _, one3 _, one2 _)
 
+pub of-verdict : One3 nothingOf × One1 totalsIn × One4 normAt × ((p : Plan) (x : List Float) → One6 (judgedOf p x))
+of-verdict = (one3 _, one1 _, one4 _, λ p x. one6 (judgedOf p x))
+
 -- `search` answers so whatever trials were before
-pub of-search : One1 totalsIn × One4 normAt × ((definition : List Trial → Attempt) (r s : Attempt) → ((ts : List Trial) → r ≡ definition ts) → ((ts : List Trial) → s ≡ definition ts) → r ≡ s)
-of-search = (one1 _, one4 _, λ definition r s e f. one-answer (definition []) r s (e []) (f []))
+pub of-search : (definition : List Trial → Attempt) (r s : Attempt) → ((ts : List Trial) → r ≡ definition ts) → ((ts : List Trial) → s ≡ definition ts) → r ≡ s
+of-search definition r s e f = one-answer (definition []) r s (e []) (f [])
 
 pub of-fit : One2 refusalOf × One6 descentOf × One2 fitOf
 of-fit = (one2 _, one6 _, one2 _)

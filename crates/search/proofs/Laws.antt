@@ -18,15 +18,16 @@ use Rattle.work.specs.Share.{share}
 use Rattle.legendre.specs.declared.Pair.{Pair}
 use Rattle.posterior.specs.declared.integrand.Point.{Point}
 use Rattle.posterior.specs.Integrand.{Eval, at}
-use Rattle.descent.specs.Descent.{to, nowhere, Trial, Tried, decreases, rounds, accepts, acceptedTrial, missedTrial, try, search}
+use Rattle.descent.specs.Descent.{to, nowhere, Trial, Tried, accepts, acceptedTrial, missedTrial, try, search}
 use Rattle.objective.specs.declared.totals.Totals.{Totals}
 use Rattle.objective.specs.declared.sum.Objective.{Objective}
 use Rattle.objective.specs.Totals.{noTotals}
 use Rattle.objective.specs.Objective.{objective, limitedOf}
-use Rattle.search.specs.declared.Plan.{Plan}
-use Rattle.search.specs.declared.Attempt.{Attempt}
+use Rattle.verdict.specs.declared.Plan.{Plan}
+use Rattle.verdict.specs.declared.Attempt.{Attempt}
+use Rattle.verdict.specs.Verdict.{nothingOf, totalsIn, judgedOf}
 use Rattle.step.specs.Step.{candidateOf, slopeOf, stillOf}
-use Rattle.search.specs.Search.{normAt, problemOf, nothingOf, totalsIn, judgedOf, toTried, noTried, triedOf, searchedFrom, searchedOf}
+use Rattle.search.specs.Search.{problemOf, toTried, noTried, triedOf, searchedFrom, searchedOf}
 use Rattle.search.specs.Follows.{by-step}
 
 -- an answer that is not refused is answered
@@ -44,16 +45,6 @@ same a t = rw (← answered (a .end) t)
 
 chosen : {A : Type 0} (t : Bool) → t ≡ true → (x y : A) {r : A} → cond t x y ≡ r → x ≡ r
 chosen t u x y w = rw u at w
-
--- ---- what a candidate's value decides
-module _ (p : Plan) (x : List Float) (v : Totals) (slope : Float) (next : List Float) (c : Totals) (e used : ℕ) (a b : Float) (r d u : Bool) (f : a ≡ normAt (p .lo) (p .hi) x v) (g : b ≡ normAt (p .lo) (p .hi) next c) (h : r ≡ rounds (v .nll) slope (c .nll) a b) (k : d ≡ decreases (v .nll) slope (c .nll)) (m : u ≡ (d || r)) where
-  pub judged-hits : u ≡ true → record { end = Answered; used = record { 0 = used }; evaluations = record { 0 = e }; found = true; x = next; v = c } ≡ judgedOf p x v slope next c e used
-  unfolding judgedOf
-  judged-hits t = rw (← f, ← g, ← h, ← k, ← m, t)
-
-  pub judged-misses : (o : Attempt) → u ≡ false → o ≡ nothingOf Answered used e → o ≡ judgedOf p x v slope next c e used
-  unfolding judgedOf
-  judged-misses o t n = rw (← f, ← g, ← h, ← k, ← m, t) n
 
 -- an objective's count stays within what was left
 objective-within : (rule : List Pair) (x : List Float) (ls : List ℕ) (l : ℕ) → limitedOf rule x ls (record { 0 = l }) .used .0 ≤ l

@@ -8,7 +8,7 @@ use Rattle.work.specs.declared.Ending.{Ending}
 use Rattle.work.specs.Work.{Work, metered, told}
 use Rattle.descent.specs.Descent.{Problem, Step, to, nowhere, orElse}
 use Rattle.objective.specs.declared.totals.Totals.{Totals}
-use Rattle.search.specs.Search.{foundIn, placeIn, valueIn}
+use Rattle.verdict.specs.Verdict.{foundIn, placeIn, valueIn}
 
 module _ {B R E Y : Type 0} (mk : Ending → ℕ → B → R) (z : B) (val : E → Y) (l u : ℕ) (P : Problem E Y (List Float) Totals (List Float)) where
   pub by-step : (there : List Float → Totals → Work E Y B) (none : Work E Y B) (s : Step (List Float) Totals) → told mk z (metered val l u (orElse P there none s)) ≡ cond (foundIn s) (told mk z (metered val l u (there (placeIn s) (valueIn s)))) (told mk z (metered val l u none))

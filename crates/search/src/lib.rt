@@ -1,119 +1,16 @@
 // The line search: at most 48 trials along a direction, each half as far as the one before.
 use legendre::Pair;
-use objective::Objective;
 use objective::totals::Totals;
+use verdict::Attempt;
+use verdict::Plan;
 use work::Ending;
 use work::FitEvaluations;
-use work::Iterations;
 use work::QuadratureEvaluations;
 ghost use mathlib.Core.Path.{_≡_};
 ghost use mathlib.Core.List.{List};
 ghost use Prim.Native.Nat.{_^_, _≤_, _<_};
-ghost use Rattle.descent.specs.Descent.{Trial, decreases, rounds};
-ghost use Rattle.search.specs.Search.{normAt, nothingOf, totalsIn, judgedOf, triedOf, searchedOf};
-
-// What a descent keeps to: its box, its tolerance and its limits.
-pub struct Plan {
-    pub lo: [f64; 4],
-    pub hi: [f64; 4],
-    pub tolerance: f64,
-    pub most: FitEvaluations,
-    pub turns: Iterations,
-    pub limit: QuadratureEvaluations,
-}
-
-// A trial's answer, and a search's: whether a step was found, and where it leads.
-pub struct Attempt {
-    pub end: Ending,
-    pub used: QuadratureEvaluations,
-    pub evaluations: FitEvaluations,
-    pub found: bool,
-    pub x: [f64; 4],
-    pub v: Totals,
-}
-
-fn nothing(end: Ending, used: QuadratureEvaluations, e: FitEvaluations) -> Attempt
-    ensures { λ r. ⌜ r ≡ nothingOf end (used .0) (e .0) ⌝ }
-{
-    Attempt {
-        end,
-        used,
-        evaluations: e,
-        found: false,
-        x: [0.0; 4],
-        v: Totals {
-            nll: 0.0,
-            gradient: [0.0; 4],
-            hessian: [0.0; 16],
-            refinement: 0.0,
-        },
-    }
-}
-
-pub fn totals_of(o: Objective) -> Totals
-    ensures { λ r. ⌜ r ≡ totalsIn o ⌝ }
-{
-    let gradient = o.gradient;
-    let hessian = o.hessian;
-    Totals {
-        nll: o.nll,
-        gradient,
-        hessian,
-        refinement: o.refinement,
-    }
-}
-
-pub fn norm_at(lo: [f64; 4], hi: [f64; 4], x: [f64; 4], v: Totals) -> f64
-    ensures { λ r. ⌜ r ≡ normAt lo hi x v ⌝ }
-{
-    let gradient = v.gradient;
-    step::norm(step::project(x, gradient, lo, hi))
-}
-
-fn is_decrease(nll: f64, slope: f64, next: f64) -> bool
-    ensures { λ r. ⌜ r ≡ decreases nll slope next ⌝ }
-{
-    next <= nll + 1e-4 * slope
-}
-
-fn is_rounding(nll: f64, slope: f64, next: f64, norm: f64, after: f64) -> bool
-    ensures { λ r. ⌜ r ≡ rounds nll slope next norm after ⌝ }
-{
-    let rounding = 32.0 * 2.220446049250313e-16 * (1.0 + num::abs(nll));
-    let small = num::abs(slope) <= rounding;
-    num::both(small, num::both(next <= nll + rounding, after < norm))
-}
-
-// What the candidate's value decides.
-fn judged(
-    p: Plan,
-    x: [f64; 4],
-    v: Totals,
-    slope: f64,
-    next: [f64; 4],
-    c: Totals,
-    e: FitEvaluations,
-    used: QuadratureEvaluations,
-) -> Attempt
-    ensures { λ r. ⌜ r ≡ judgedOf p x v slope next c (e .0) (used .0) ⌝ }
-{
-    let lo = p.lo;
-    let hi = p.hi;
-    let before = norm_at(lo, hi, x, v);
-    let after = norm_at(lo, hi, next, c);
-    let rounded = is_rounding(v.nll, slope, c.nll, before, after);
-    if num::either(is_decrease(v.nll, slope, c.nll), rounded) {
-        return Attempt {
-            end: Ending::Answered,
-            used,
-            evaluations: e,
-            found: true,
-            x: next,
-            v: c,
-        };
-    }
-    nothing(Ending::Answered, used, e)
-}
+ghost use Rattle.descent.specs.Descent.{Trial};
+ghost use Rattle.search.specs.Search.{triedOf, searchedOf};
 
 // One trial at alpha along d, with `made` evaluations of the objective and `used` of the integrand behind it.
 fn tried(
@@ -138,7 +35,7 @@ fn tried(
     let next = step::candidate(x, d, alpha, lo, hi);
     let slope = step::slope(gradient, next, x);
     if num::either(0.0 <= slope, step::still(next, x)) {
-        return nothing(Ending::Answered, used, made);
+        return verdict::nothing(Ending::Answered, used, made);
     }
     let o = objective::limited_objective(
         rule,
@@ -150,9 +47,9 @@ fn tried(
     let spent = QuadratureEvaluations(sum);
     let end = o.end;
     if work::refused(end) {
-        return nothing(end, spent, FitEvaluations(0));
+        return verdict::nothing(end, spent, FitEvaluations(0));
     }
-    judged(p, x, v, slope, next, totals_of(o), more, spent)
+    verdict::judged(p, x, v, slope, next, verdict::totals_of(o), more, spent)
 }
 
 pub fn search(
@@ -173,13 +70,13 @@ pub fn search(
     let mut used = before;
     for _ in 0..48u64 {
         if p.most.0 <= e.0 {
-            return nothing(Ending::Answered, used, e);
+            return verdict::nothing(Ending::Answered, used, e);
         }
         let a = tried(litters, rule, p, x, v, d, alpha, e, used);
         let end = a.end;
         used = a.used;
         if work::refused(end) {
-            return nothing(end, used, FitEvaluations(0));
+            return verdict::nothing(end, used, FitEvaluations(0));
         }
         if a.found {
             return a;
@@ -187,5 +84,5 @@ pub fn search(
         e = a.evaluations;
         alpha = alpha * 0.5;
     }
-    nothing(Ending::Answered, used, e)
+    verdict::nothing(Ending::Answered, used, e)
 }

@@ -17,10 +17,11 @@ use Rattle.descent.specs.declared.Status.{Status}
 use Rattle.descent.specs.declared.Status.the-variants.{Converged, EvaluationLimit}
 use Rattle.descent.specs.Descent.{Trial, search, descend}
 use Rattle.objective.specs.declared.totals.Totals.{Totals}
-use Rattle.search.specs.declared.Plan.{Plan}
-use Rattle.search.specs.declared.Attempt.{Attempt}
+use Rattle.verdict.specs.declared.Plan.{Plan}
+use Rattle.verdict.specs.declared.Attempt.{Attempt}
 use Rattle.turns.specs.declared.Descent.{Descent}
-use Rattle.search.specs.Search.{normAt, directionAt, problemOf, noSearched, searchedFrom, searchedOf}
+use Rattle.verdict.specs.Verdict.{normAt}
+use Rattle.search.specs.Search.{directionAt, problemOf, noSearched, searchedFrom, searchedOf}
 use Rattle.search.specs.Follows.{by-step}
 use Rattle.turns.specs.Descend.{refusalOf, stoppedOf, failedOf, lastOf, descentFrom, descentOf}
 

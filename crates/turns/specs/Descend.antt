@@ -14,9 +14,10 @@ use Rattle.descent.specs.declared.Status.the-variants.{NoStatus, Converged, Eva
 use Rattle.descent.specs.Descent.{Trial, Descended, descend}
 use Rattle.objective.specs.declared.totals.Totals.{Totals}
 use Rattle.objective.specs.Totals.{noTotals}
-use Rattle.search.specs.declared.Plan.{Plan}
+use Rattle.verdict.specs.declared.Plan.{Plan}
 use Rattle.turns.specs.declared.Descent.{Descent}
-use Rattle.search.specs.Search.{normAt, problemOf, noWhere}
+use Rattle.verdict.specs.Verdict.{normAt, noWhere}
+use Rattle.search.specs.Search.{problemOf}
 
 abbrev pub toDescent : Ending → ℕ → Descended (List Float) Totals → Descent
 toDescent end used d = record { end = end; used = record { 0 = used }; status = d .status; x = d .x; v = d .v; evaluations = record { 0 = d .evaluations }; iterations = record { 0 = d .iterations } }

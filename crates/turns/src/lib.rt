@@ -2,7 +2,7 @@
 use descent::Status;
 use legendre::Pair;
 use objective::totals::Totals;
-use search::Plan;
+use verdict::Plan;
 use work::Ending;
 use work::FitEvaluations;
 use work::Iterations;
@@ -88,7 +88,7 @@ fn last(p: Plan, used: QuadratureEvaluations, x: [f64; 4], v: Totals, e: FitEval
     let lo = p.lo;
     let hi = p.hi;
     let turns = p.turns;
-    if search::norm_at(lo, hi, x, v) <= p.tolerance {
+    if verdict::norm_at(lo, hi, x, v) <= p.tolerance {
         return stopped(Status::Converged, used, x, v, e, turns);
     }
     if p.most.0 <= e.0 {
@@ -116,7 +116,7 @@ pub fn descend(
     let mut e = FitEvaluations(1);
     let mut used = before;
     for k in 0..p.turns.0 {
-        let near = search::norm_at(lo, hi, x, v) <= p.tolerance;
+        let near = verdict::norm_at(lo, hi, x, v) <= p.tolerance;
         let spent = most.0 <= e.0;
         if near {
             return stopped(Status::Converged, used, x, v, e, Iterations(k));

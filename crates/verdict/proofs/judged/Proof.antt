@@ -1,8 +1,8 @@
--- `search::judged` meets its contract, by its test and its callees' contracts.
-use Rattle.search.proofs.Laws.{judged-hits, judged-misses}
+-- `verdict::judged` meets its contract, by its test and its callees' contracts.
+use Rattle.verdict.proofs.Laws.{judged-hits, judged-misses}
 use borrow.Author.Needs.{needs}
-use Rattle.search.proofs.judged.Statement.{statement}
-use Rattle.search.proofs.judged.Tie as tie
+use Rattle.verdict.proofs.judged.Statement.{statement}
+use Rattle.verdict.proofs.judged.Tie as tie
 
 returns : tie.Need-returns
 returns c =

@@ -1,8 +1,8 @@
--- `search::is_decrease` meets its contract, by its test.
+-- `verdict::is_decrease` meets its contract, by its test.
 use mathlib.Core.Path.{refl}
 use Rattle.descent.specs.Descent.{decreases}
-use Rattle.search.proofs.is_decrease.Statement.{statement}
-use Rattle.search.proofs.is_decrease.Tie as tie
+use Rattle.verdict.proofs.is_decrease.Statement.{statement}
+use Rattle.verdict.proofs.is_decrease.Tie as tie
 
 pub is-decrease-spec : {M : Type 1} → statement M
 unfolding decreases

@@ -1,8 +1,8 @@
--- `search::is_rounding` meets its contract, by what its callees ensure.
+-- `verdict::is_rounding` meets its contract, by what its callees ensure.
 use Rattle.descent.specs.Descent.{rounds}
 use borrow.Author.Needs.{needs}
-use Rattle.search.proofs.is_rounding.Statement.{statement}
-use Rattle.search.proofs.is_rounding.Tie as tie
+use Rattle.verdict.proofs.is_rounding.Statement.{statement}
+use Rattle.verdict.proofs.is_rounding.Tie as tie
 
 pub is-rounding-spec : {M : Type 1} → statement M
 unfolding rounds

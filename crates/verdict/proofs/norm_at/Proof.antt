@@ -1,7 +1,7 @@
--- `search::norm_at` meets its contract, by what its callees ensure.
+-- `verdict::norm_at` meets its contract, by what its callees ensure.
 use borrow.Author.Needs.{needs}
-use Rattle.search.proofs.norm_at.Statement.{statement}
-use Rattle.search.proofs.norm_at.Tie as tie
+use Rattle.verdict.proofs.norm_at.Statement.{statement}
+use Rattle.verdict.proofs.norm_at.Tie as tie
 
 pub norm-at-spec : {M : Type 1} → statement M
 norm-at-spec =
