@@ -1,3 +1,2 @@
 pub mod ReadLaws
 pub mod TokenLaws
-pub mod WriteLaws

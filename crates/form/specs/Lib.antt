@@ -2,11 +2,8 @@ pub mod Digits
 pub mod Form
 pub mod Read
 pub mod Says
-pub mod Written
 pub mod DigitLaws
 pub mod Sound
 pub mod BothWays
 pub mod Departure
-pub mod WrittenLaws
-pub mod Width
 pub mod Examples

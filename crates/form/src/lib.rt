@@ -1,5 +1,4 @@
-// A form's values read from a text, and put into a buffer.
+// A form's values read from a text.
 pub mod digits;
 pub mod read;
 pub mod token;
-pub mod write;

@@ -14,9 +14,9 @@ use Rattle.descent.specs.declared.Status.{Status}
 use Rattle.work.specs.Ended.{isRefused, numberOf, reasonOf}
 use Rattle.fit.specs.declared.report.Fit.{Fit}
 use Rattle.form.specs.Form.{ascii, render}
-use Rattle.form.specs.Width.{length-render}
-use Rattle.form.specs.Written.{written}
-use Rattle.form.specs.WrittenLaws.{written-append}
+use Rattle.render.specs.Width.{length-render}
+use Rattle.render.specs.Written.{written}
+use Rattle.render.specs.WrittenLaws.{written-append}
 use Rattle.print.specs.Answer.{refusalText, statusText, report, reportValues, mark, marksText, activeText, reportText, fitText}
 use Rattle.print.specs.Room.{report-width}
 

@@ -11,7 +11,7 @@ use Rattle.descent.specs.declared.Status.{Status}
 use Rattle.descent.specs.declared.Status.the-variants.{NoStatus, Converged, EvaluationLimit, IterationLimit, LineSearchFailed}
 use Rattle.fit.specs.declared.report.Fit.{Fit}
 use Rattle.form.specs.Form.{ascii}
-use Rattle.form.specs.Width.{width, length-render}
+use Rattle.render.specs.Width.{width, length-render}
 use Rattle.print.specs.Answer.{refusalText, statusText, report, reportValues, activeText, reportText, fitText}
 
 -- 26 for a status, 265 for the report and 9 for the marks, at twenty digits a count

@@ -6,7 +6,7 @@ ghost use mathlib.Core.Bool.{_||_};
 ghost use Prim.Native.Nat.{_+_, _≤_};
 ghost use lib.ListN.{length};
 ghost use Rattle.num.specs.F64.{bitsOf};
-ghost use Rattle.form.specs.Written.{written};
+ghost use Rattle.render.specs.Written.{written};
 ghost use Rattle.print.specs.Answer.{refusalText, statusText, reportValues, mark as Answer·mark, marksText, activeText, reportText, fitText};
 ghost use Rattle.print.specs.Room.{room};
 
@@ -25,7 +25,7 @@ pub fn refusal(number: u64, count: u64, reason: u64, out: &mut [u8]) -> usize
     ensures { λ r. ⌜ (r ≡ length (refusalText number count reason)) × (now (out .exit) ≡ written (now (out .entry)) 0 (refusalText number count reason)) ⌝ }
 {
     let values = [number, count, reason];
-    form::write::put(b"refused # # #\n", &values, out, 0)
+    render::put(b"refused # # #\n", &values, out, 0)
 }
 
 fn status(s: Status, out: &mut [u8], at: usize) -> usize
@@ -34,11 +34,11 @@ fn status(s: Status, out: &mut [u8], at: usize) -> usize
     ensures { λ r. ⌜ r ≤ at + 26 ⌝ }
 {
     match s {
-        Status::NoStatus => form::write::text(b"status none\n", out, at),
-        Status::Converged => form::write::text(b"status converged\n", out, at),
-        Status::EvaluationLimit => form::write::text(b"status evaluation-limit\n", out, at),
-        Status::IterationLimit => form::write::text(b"status iteration-limit\n", out, at),
-        Status::LineSearchFailed => form::write::text(b"status line-search-failed\n", out, at),
+        Status::NoStatus => render::text(b"status none\n", out, at),
+        Status::Converged => render::text(b"status converged\n", out, at),
+        Status::EvaluationLimit => render::text(b"status evaluation-limit\n", out, at),
+        Status::IterationLimit => render::text(b"status iteration-limit\n", out, at),
+        Status::LineSearchFailed => render::text(b"status line-search-failed\n", out, at),
     }
 }
 
@@ -84,7 +84,7 @@ fn mark(on: bool, text: &[u8], out: &mut [u8], at: usize) -> usize
     ensures { λ r. ⌜ r ≤ at + length (now (text .entry)) ⌝ }
 {
     if on {
-        return form::write::text(text, out, at);
+        return render::text(text, out, at);
     }
     at
 }
@@ -106,9 +106,9 @@ fn active(a: bool, b: bool, c: bool, d: bool, out: &mut [u8], at: usize) -> usiz
 {
     if any(a, b, c, d) {
         let end = marks(a, b, c, d, out, at);
-        return form::write::text(b"\n", out, end);
+        return render::text(b"\n", out, end);
     }
-    form::write::text(b" none\n", out, at)
+    render::text(b" none\n", out, at)
 }
 
 fn report(f: Fit, out: &mut [u8]) -> usize
@@ -119,7 +119,7 @@ fn report(f: Fit, out: &mut [u8]) -> usize
     let on = f.active;
     let numbers = values(f);
     let first = status(how, out, 0);
-    let second = form::write::put(
+    let second = render::put(
         b"mean % %\nsd % %\nsd % %\nnll %\ngradient %\ncounts # # #\nlitters #\nactive",
         &numbers,
         out,

@@ -9,7 +9,7 @@ ghost use mathlib.Core.List.{[]};
 ghost use Prim.Native.Nat.{_≤_, _<_};
 ghost use lib.ListN.{length};
 ghost use Rattle.fit.specs.Fit.{fitOf};
-ghost use Rattle.form.specs.Written.{written};
+ghost use Rattle.render.specs.Written.{written};
 ghost use Rattle.objective.specs.Objective.{objectiveOf};
 ghost use Rattle.summary.specs.Summary.{summaryOf};
 ghost use Rattle.request.specs.Request.{requestOf};

@@ -10,7 +10,7 @@ ghost use Prim.Native.Nat.{_≤_, _<_};
 ghost use lib.ListN.{length};
 ghost use Rattle.num.specs.F64.{bits as F64·bits};
 ghost use Rattle.fit.specs.Fit.{fitOf};
-ghost use Rattle.form.specs.Written.{written};
+ghost use Rattle.render.specs.Written.{written};
 ghost use Rattle.print.specs.Answer.{fitText};
 ghost use Rattle.text.specs.Answer.{requestIn, answerText};
 ghost use Rattle.print.specs.Room.{room};

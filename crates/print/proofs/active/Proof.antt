@@ -1,6 +1,6 @@
 -- `print::active` meets its contract.
 use borrow.Author.Needs.{needs}
-use Rattle.form.specs.WrittenLaws.{by-text}
+use Rattle.render.specs.WrittenLaws.{by-text}
 use Rattle.print.proofs.Laws.{by-length, some-length, some-text, none}
 use Rattle.print.proofs.active.Statement.{statement}
 use Rattle.print.proofs.active.Tie as tie

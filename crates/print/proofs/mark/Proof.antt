@@ -1,7 +1,7 @@
 -- `print::mark` meets its contract.
 use borrow.Author.Needs.{needs}
 use Rattle.num.specs.Choose.{choose}
-use Rattle.form.specs.WrittenLaws.{by-text}
+use Rattle.render.specs.WrittenLaws.{by-text}
 use Rattle.print.proofs.Laws.{by-length, unset-length, unset-text}
 use Rattle.print.proofs.mark.Statement.{statement}
 use Rattle.print.proofs.mark.Tie as tie

@@ -1,6 +1,6 @@
 -- `print::refusal` meets its contract.
 use borrow.Author.Needs.{needs}
-use Rattle.form.specs.Width.{width}
+use Rattle.render.specs.Width.{width}
 use Rattle.print.specs.Answer.{refusalText}
 use Rattle.print.proofs.Laws.{from-start}
 use Rattle.print.proofs.refusal.Statement.{statement}

@@ -1,7 +1,7 @@
 -- `print::report` meets its contract: a status, the numbers, the marks.
 use native.Mathlib.Omega.{arith}
 use borrow.Author.Needs.{needs}
-use Rattle.form.specs.Width.{width}
+use Rattle.render.specs.Width.{width}
 use Rattle.print.proofs.Laws.{numbers-most, report-length, report-text}
 use Rattle.print.proofs.report.Statement.{statement}
 use Rattle.print.proofs.report.Tie as tie

@@ -1,7 +1,7 @@
 -- `print::status` meets its contract, each status by its own text.
 use borrow.Author.Needs.{needs}
 use Rattle.print.specs.Answer.{statusText}
-use Rattle.form.specs.WrittenLaws.{by-text}
+use Rattle.render.specs.WrittenLaws.{by-text}
 use Rattle.print.proofs.Laws.{by-length, by-status}
 use Rattle.print.proofs.status.Statement.{statement}
 use Rattle.print.proofs.status.Tie as tie

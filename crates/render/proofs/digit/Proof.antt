@@ -1,11 +1,11 @@
--- `write::digit` meets its contract.
+-- `render::digit` meets its contract.
 use mathlib.Core.Path.{_≡_}
 use Prim.Native.Nat.{_-_, _/_, _^_, _≤_}
 use native.Mathlib.Omega.{arith}
 use borrow.Author.Needs.{needs}
-use Rattle.form.proofs.WriteLaws.{digit-begins, digit-turn, digit-done}
-use Rattle.form.proofs.write.digit.Statement.{statement}
-use Rattle.form.proofs.write.digit.Tie as tie
+use Rattle.render.proofs.Laws.{digit-begins, digit-turn, digit-done}
+use Rattle.render.proofs.digit.Statement.{statement}
+use Rattle.render.proofs.digit.Tie as tie
 
 abbrev Inv-loop : tie.InvT-loop
 Inv-loop base k n rest₀ counter₀ rest counter = (rest ≡ n / base ^ counter) × (counter ≤ k)

@@ -1,9 +1,9 @@
--- `write::piece` meets its contract.
+-- `render::piece` meets its contract.
 use borrow.Author.Needs.{needs}
-use Rattle.form.specs.WrittenLaws.{by-text}
-use Rattle.form.proofs.WriteLaws.{same-written, ends-count, ends-bits, ends-byte, by-byte, as-count, as-bits, room-count, room-bits, room-byte}
-use Rattle.form.proofs.write.piece.Statement.{statement}
-use Rattle.form.proofs.write.piece.Tie as tie
+use Rattle.render.specs.WrittenLaws.{by-text}
+use Rattle.render.proofs.Laws.{same-written, ends-count, ends-bits, ends-byte, by-byte, as-count, as-bits, room-count, room-bits, room-byte}
+use Rattle.render.proofs.piece.Statement.{statement}
+use Rattle.render.proofs.piece.Tie as tie
 
 pub piece-spec : {M : Type 1} → statement M
 piece-spec =

@@ -1,8 +1,8 @@
--- `write::taken_after` meets its contract.
+-- `render::taken_after` meets its contract.
 use borrow.Author.Needs.{needs}
-use Rattle.form.proofs.WriteLaws.{taken-count, taken-bits, taken-none}
-use Rattle.form.proofs.write.taken_after.Statement.{statement}
-use Rattle.form.proofs.write.taken_after.Tie as tie
+use Rattle.render.proofs.Laws.{taken-count, taken-bits, taken-none}
+use Rattle.render.proofs.taken_after.Statement.{statement}
+use Rattle.render.proofs.taken_after.Tie as tie
 
 pub taken-after-spec : {M : Type 1} → statement M
 taken-after-spec =

@@ -1,12 +1,12 @@
--- `write::text` meets its contract: what stands written, with the bytes left, is the whole.
+-- `render::text` meets its contract: what stands written, with the bytes left, is the whole.
 use mathlib.Core.Path.{_≡_}
 use Prim.Native.Nat.{_+_, _-_, _≤_}
 use borrow.Author.Needs.{needs}
 use lib.ListN.{length, drop}
-use Rattle.form.specs.Written.{written}
-use Rattle.form.proofs.WriteLaws.{text-begins, text-turn, text-done}
-use Rattle.form.proofs.write.text.Statement.{statement}
-use Rattle.form.proofs.write.text.Tie as tie
+use Rattle.render.specs.Written.{written}
+use Rattle.render.proofs.Laws.{text-begins, text-turn, text-done}
+use Rattle.render.proofs.text.Statement.{statement}
+use Rattle.render.proofs.text.Tie as tie
 
 abbrev Inv-loop : tie.InvT-loop
 Inv-loop s out₀ at i₀ i-end out i =

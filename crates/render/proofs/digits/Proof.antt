@@ -1,14 +1,14 @@
--- `write::digits` meets its contract: what stands written, with the digits left, is the whole.
+-- `render::digits` meets its contract: what stands written, with the digits left, is the whole.
 use mathlib.Core.Path.{_≡_}
 use Prim.Native.Nat.{_-_, _≤_}
 use native.Mathlib.Omega.{arith}
 use borrow.Author.Needs.{needs}
 use lib.ListN.{length}
 use Rattle.form.specs.Digits.{digits}
-use Rattle.form.specs.Written.{written}
-use Rattle.form.proofs.WriteLaws.{digit-small, digits-begin, digits-turn, digits-done}
-use Rattle.form.proofs.write.digits.Statement.{statement}
-use Rattle.form.proofs.write.digits.Tie as tie
+use Rattle.render.specs.Written.{written}
+use Rattle.render.proofs.Laws.{digit-small, digits-begin, digits-turn, digits-done}
+use Rattle.render.proofs.digits.Statement.{statement}
+use Rattle.render.proofs.digits.Tie as tie
 
 abbrev Inv-loop : tie.InvT-loop
 Inv-loop base k n out₀ at end i₀ out i =

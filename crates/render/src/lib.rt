@@ -3,10 +3,10 @@ ghost use mathlib.Core.Path.{_≡_};
 ghost use mathlib.Core.List.{_∷_, []};
 ghost use Prim.Native.Nat.{_+_, _/_, _%_, _^_, _≤_, _<_};
 ghost use lib.ListN.{length, getD};
 ghost use Rattle.form.specs.Digits.{glyph as Digits·glyph, digits as Digits·digits, places as Digits·places};
 ghost use Rattle.form.specs.Form.{piece as Form·piece, render};
-ghost use Rattle.form.specs.Written.{written};
-ghost use Rattle.form.specs.Width.{widest, width, takenAfter};
+ghost use Rattle.render.specs.Written.{written};
+ghost use Rattle.render.specs.Width.{widest, width, takenAfter};
 
 // How many digits n has in decimal; never more than twenty.
 fn places(n: u64) -> usize

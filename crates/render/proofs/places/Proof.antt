@@ -1,12 +1,12 @@
--- `write::places` meets its contract: what was passed and what is left are the whole.
+-- `render::places` meets its contract: what was passed and what is left are the whole.
 use mathlib.Core.Path.{_≡_}
 use Prim.Native.Nat.{_+_, _-_, _≤_}
 use native.Mathlib.Omega.{arith}
 use borrow.Author.Needs.{needs}
 use Rattle.form.specs.Digits.{placesFrom}
-use Rattle.form.proofs.WriteLaws.{places-ends, places-turn, places-done}
-use Rattle.form.proofs.write.places.Statement.{statement}
-use Rattle.form.proofs.write.places.Tie as tie
+use Rattle.render.proofs.Laws.{places-ends, places-turn, places-done}
+use Rattle.render.proofs.places.Statement.{statement}
+use Rattle.render.proofs.places.Tie as tie
 
 abbrev Inv-loop : tie.InvT-loop
 Inv-loop n rest₀ k₀ rest k = (placesFrom (20 - k) rest + (k - 1) ≡ placesFrom 19 n) × (1 ≤ k) × (k ≤ 20)

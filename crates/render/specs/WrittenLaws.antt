@@ -7,7 +7,7 @@ use native.Mathlib.Nat.{add-zero, zero-add}
 use native.Mathlib.Omega.{arith}
 use lib.ListN.{length, take, set, length-set}
 use lib.Seq.{take-suc-set, append-snoc}
-use Rattle.form.specs.Written.{written}
+use Rattle.render.specs.Written.{written}
 
 pub length-written : (l : List ℕ) (at : ℕ) (bs : List ℕ) → length (written l at bs) ≡ length l
 unfolding written

@@ -1,15 +1,15 @@
--- `write::put` meets its contract: what stands written, with what the rest of the form becomes, is the whole.
+-- `render::put` meets its contract: what stands written, with what the rest of the form becomes, is the whole.
 use mathlib.Core.Path.{_≡_}
 use Prim.Native.Nat.{_+_, _-_, _≤_}
 use native.Mathlib.Omega.{arith}
 use borrow.Author.Needs.{needs}
 use lib.ListN.{length, drop}
 use Rattle.form.specs.Form.{render}
-use Rattle.form.specs.Written.{written}
-use Rattle.form.specs.Width.{width}
-use Rattle.form.proofs.WriteLaws.{rest, same-written, put-text, put-length, put-room, put-fits, put-ends, put-done, taken-few, kept}
-use Rattle.form.proofs.write.put.Statement.{statement}
-use Rattle.form.proofs.write.put.Tie as tie
+use Rattle.render.specs.Written.{written}
+use Rattle.render.specs.Width.{width}
+use Rattle.render.proofs.Laws.{rest, same-written, put-text, put-length, put-room, put-fits, put-ends, put-done, taken-few, kept}
+use Rattle.render.proofs.put.Statement.{statement}
+use Rattle.render.proofs.put.Tie as tie
 
 abbrev Inv-loop : tie.InvT-loop
 Inv-loop form values out₀ at next₀ taken₀ i₀ i-end out next taken i =

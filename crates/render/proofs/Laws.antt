@@ -10,11 +10,11 @@ use borrow.Author.Tests.{lt-ltb, le-ltb, ne-eqb}
 use lib.ListN.{length, drop, getD, set, length-append, drop-of-length-le, List·getD-eq-default}
 use lib.Seq.{drop-cons}
 use Rattle.num.specs.Left.{left-one, left-none}
 use Rattle.form.specs.Digits.{glyph, digits, placesFrom}
 use Rattle.form.specs.Form.{first, after, isHole, piece, render}
-use Rattle.form.specs.Written.{written}
-use Rattle.form.specs.WrittenLaws.{length-written, written-append}
-use Rattle.form.specs.Width.{widest, width, takenAfter, places-most, length-digits, length-piece}
+use Rattle.render.specs.Written.{written}
+use Rattle.render.specs.WrittenLaws.{length-written, written-append}
+use Rattle.render.specs.Width.{widest, width, takenAfter, places-most, length-digits, length-piece}
 
 -- ---- how many digits: k were passed, 20 - k can still be
 module _ (n k : ℕ) where

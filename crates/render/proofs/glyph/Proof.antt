@@ -1,8 +1,8 @@
--- `write::glyph` meets its contract.
+-- `render::glyph` meets its contract.
 use borrow.Author.Needs.{needs}
 use Rattle.num.specs.Choose.{choose}
-use Rattle.form.proofs.write.glyph.Statement.{statement}
-use Rattle.form.proofs.write.glyph.Tie as tie
+use Rattle.render.proofs.glyph.Statement.{statement}
+use Rattle.render.proofs.glyph.Tie as tie
 
 pub glyph-spec : {M : Type 1} → statement M
 glyph-spec =
