@@ -31,6 +31,7 @@ use Rattle.mode.specs.Mode.{modeOf}
 use Rattle.tail.specs.Tail.{tailBoundOf, rangeOf, goalOf}
 use Rattle.row.specs.Coefficient.{coefficientOf}
 use Rattle.row.specs.Peak.{locatedOf, limitsOf}
+use Rattle.panel.specs.Panel.{sidesOf}
 use Rattle.quadrature.specs.Quadrature.{integralOf}
 use Rattle.row.specs.Share.{rowOf}
 use Rattle.objective.specs.Litters.{validLitters, validPoint}
@@ -120,8 +121,8 @@ of-posterior = (one5 _, one2 _, one1 _, one2 _, one2 _, one3 _, one2 _, one1 _, 
 pub of-lent : One2 (λ (p : Posterior) (z : Float). evaluatedOf (atOf p z)) × One2 (λ (p : Posterior) (z : Float). atOf p z .p)
 of-lent = (one2 _, one2 _)
 
-pub of-row : One2 coefficientOf × One1 locatedOf × One4 limitsOf × One3 integralOf × ((litter : ℕ) → One6 (rowOf litter))
-of-row = (one2 _, one1 _, one4 _, one3 _, λ litter. one6 (rowOf litter))
+pub of-row : One2 coefficientOf × One1 locatedOf × One4 limitsOf × One4 sidesOf × One3 integralOf × ((litter : ℕ) → One6 (rowOf litter))
+of-row = (one2 _, one1 _, one4 _, one4 _, one3 _, λ litter. one6 (rowOf litter))
 
 pub of-objective : One1 validLitters × One1 validPoint × One1 indexOf × One6 accumulatedOf × One4 limitedOf × One2 objectiveOf
 of-objective = (one1 _, one1 _, one1 _, one6 _, one4 _, one2 _)

@@ -16,12 +16,13 @@ use Rattle.legendre.specs.declared.Pair.{Pair}
 use Rattle.posterior.specs.declared.integrand.Posterior.{Posterior}
 use Rattle.posterior.specs.declared.integrand.Point.{Point}
 use Rattle.posterior.specs.Integrand.{Eval, inside, alone, at, here, from}
-use Rattle.quadrature.specs.declared.Hump.{Hump}
+use Rattle.panel.specs.declared.Hump.{Hump}
 use Rattle.quadrature.specs.declared.Integral.{Integral}
 use Rattle.row.specs.declared.share.Row.{Row}
 use Rattle.row.specs.Coefficient.{coefficientOf}
 use Rattle.row.specs.Peak.{peaked, spanned, scaleOf}
-use Rattle.quadrature.specs.Quadrature.{rules, noSums, integralOf}
+use Rattle.panel.specs.Panel.{noSums}
+use Rattle.quadrature.specs.Quadrature.{rules, integralOf}
 
 -- a litter's share of the objective; the Hessian by rows
 pub record Share : Type 0 where

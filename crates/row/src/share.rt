@@ -1,7 +1,7 @@
 // One litter's negative log-likelihood with its gradient and Hessian in mean and variance.
 use legendre::Pair;
+use panel::Hump;
 use posterior::integrand::Posterior;
-use quadrature::Hump;
 use quadrature::Integral;
 use work::Ending;
 use work::QuadratureEvaluations;

@@ -1,13 +1,13 @@
--- `quadrature::side` meets its contract, as the panels still to come make of the count and the sums so far the whole side.
+-- `panel::side` meets its contract, as the panels still to come make of the count and the sums so far the whole side.
 use mathlib.Core.Path.{_≡_}
 use Prim.Native.Nat.{_-_}
 use native.Mathlib.Nat.{sub-zero}
-use Rattle.quadrature.specs.Quadrature.{sideFrom, sideOf}
-use Rattle.quadrature.proofs.Laws.{side-turn, side-done}
+use Rattle.panel.specs.Panel.{sideFrom, sideOf}
+use Rattle.panel.proofs.Laws.{side-turn, side-done}
 use borrow.Author.Needs.{needs}
 use Rattle.num.specs.Choose.{choose}
-use Rattle.quadrature.proofs.side.Statement.{statement}
-use Rattle.quadrature.proofs.side.Tie as tie
+use Rattle.panel.proofs.side.Statement.{statement}
+use Rattle.panel.proofs.side.Tie as tie
 
 abbrev Inv-loop : tie.InvT-loop
 Inv-loop rule top a width panels q₀ s₀ i₀ q s i = sideFrom q rule top a width (panels - i) i s ≡ sideOf q₀ rule top a width panels s₀

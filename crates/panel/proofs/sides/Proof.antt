@@ -1,9 +1,9 @@
--- `quadrature::sides` meets its contract, by a law for the call on the way.
-use Rattle.quadrature.proofs.Laws.{sides-goes}
+-- `panel::sides` meets its contract, by a law for the call on the way.
+use Rattle.panel.proofs.Laws.{sides-goes}
 use borrow.Author.Needs.{needs}
 use Rattle.num.specs.Choose.{choose}
-use Rattle.quadrature.proofs.sides.Statement.{statement}
-use Rattle.quadrature.proofs.sides.Tie as tie
+use Rattle.panel.proofs.sides.Statement.{statement}
+use Rattle.panel.proofs.sides.Tie as tie
 
 pub sides-spec : {M : Type 1} → statement M
 sides-spec =

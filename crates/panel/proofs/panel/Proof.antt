@@ -1,12 +1,12 @@
--- `quadrature::panel` meets its contract, as the nodes still to come make of the count and the sums so far the whole panel.
+-- `panel::panel` meets its contract, as the nodes still to come make of the count and the sums so far the whole panel.
 use mathlib.Core.Path.{_≡_, refl}
 use Prim.Native.Nat.{_-_}
-use Rattle.quadrature.specs.Quadrature.{panelFrom, panelOf}
-use Rattle.quadrature.proofs.Laws.{panel-stops, panel-turn, panel-done}
+use Rattle.panel.specs.Panel.{panelFrom, panelOf}
+use Rattle.panel.proofs.Laws.{panel-stops, panel-turn, panel-done}
 use borrow.Author.Needs.{needs}
 use Rattle.num.specs.Choose.{choose}
-use Rattle.quadrature.proofs.panel.Statement.{statement}
-use Rattle.quadrature.proofs.panel.Tie as tie
+use Rattle.panel.proofs.panel.Statement.{statement}
+use Rattle.panel.proofs.panel.Tie as tie
 
 abbrev Inv-loop : tie.InvT-loop
 Inv-loop top center width rule q₀ s₀ i₀ q s i = panelFrom q rule top center width (16 - i) i s ≡ panelOf q₀ rule top center width s₀
