@@ -1,5 +1,5 @@
 -- The cosine, step by step: a sine from the nearest odd multiple of π / 2.
-use mathlib.Core.List.{List, [], _∷_}
+use mathlib.Core.List.{[], _∷_}
 use mathlib.Core.Bool.{cond}
 use Prim.Native.Nat.{_%_}
 use lib.Dec.{eqb}

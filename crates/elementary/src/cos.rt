@@ -1,6 +1,5 @@
 // The cosine, as a sine from the nearest odd multiple of π / 2.
 ghost use mathlib.Core.Path.{_≡_};
-ghost use mathlib.Core.Bool.{cond};
 ghost use Rattle.elementary.specs.Cos.{cosOf, sinNear};
 
 const COS_INVPI: f64 = 0.3183098861837907;

@@ -1,5 +1,5 @@
 -- The laws of signs by which one erfc serves x and -x: a sign goes through a product, a quotient and a rounding.
-use mathlib.Core.Path.{_≡_, refl, _∙_}
+use mathlib.Core.Path.{_≡_, refl}
 use mathlib.Core.Bool.{Bool, true, false, not, cond}
 use Prim.Native.Nat.{ℕ, zero, suc}
 use lib.Ieee.{Format, Float, nan, inf, fin, binary64, neg, mul, div, round, units, odd, unlike, lt}

@@ -1,16 +1,16 @@
 -- What a test says of a float's kind: laws for `to_bits`, which asks for no NaN, and `from_bits`, which asks for no NaN's bits.
 use mathlib.Core.Path.{_≡_, sym, subst, _∙_}
-use mathlib.Core.Bool.{Bool, true, false, not}
-use Prim.Native.Nat.{ℕ, suc, _+_, _*_, _/_, _%_, _^_, _≤_, _<_}
+use mathlib.Core.Bool.{true, false, not}
+use Prim.Native.Nat.{ℕ, suc, _+_, _*_, _%_, _^_, _≤_, _<_}
 use native.Mathlib.Omega.{arith}
 use native.Mathlib.Nat.{mul-pos, zero-lt-suc}
 use borrow.Author.Tests.{le-ltb, lt-ltb}
-use lib.Dec.{T, ltb, lit<}
+use lib.Dec.{T, lit<}
 use lib.Ieee.{Float, nan, inf, fin, binary64, neg, lt, isNan, nanBits, fits, toBits, ofBits, up, down}
 use lib.Ieee.Fits.{neg-fits, up-pos, down-pos}
 use lib.IntN.{ℤ}
 use lib.Ieee.Bits.{nanBits-above, toBits-lt}
-use Rattle.num.specs.F64.{bits, bitsOf, zero·, infinity·}
+use Rattle.num.specs.F64.{bitsOf}
 
 -- a number that is below another, or above, is no NaN
 pub below-number : (x y : Float) → lt x y ≡ true → T (not (isNan x))

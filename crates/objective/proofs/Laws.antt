@@ -6,7 +6,7 @@ use Prim.Native.Nat.{ℕ, zero, suc, _+_, _-_, _<_, _≤_, zero-le}
 use native.Mathlib.Omega.{arith}
 use lib.Ieee.{Float}
 use Rattle.num.specs.Left.{left-one, left-none}
-use Rattle.work.specs.declared.Ending.the-variants.{Answered, InvalidInput}
+use Rattle.work.specs.declared.Ending.the-variants.{InvalidInput}
 use Rattle.work.specs.declared.QuadratureEvaluations.{QuadratureEvaluations}
 use Rattle.work.specs.Ended.{isRefused}
 use Rattle.work.specs.Metered.{past, branch, gives, gives-up, within}

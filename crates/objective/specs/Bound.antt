@@ -11,7 +11,7 @@ use lib.Dec.{leb, eqb, lit≤}
 use lib.ListN.{length}
 use lib.Ieee.{Float}
 use Rattle.work.specs.declared.QuadratureEvaluations.{QuadratureEvaluations}
-use Rattle.work.specs.Work.{run, listed, listedL, metered, told}
+use Rattle.work.specs.Work.{run, listed, listedL, told}
 use Rattle.work.specs.AtMost.{AtMost, rets, stops, both, more, at-most-listed}
 use Rattle.work.specs.Metered.{metered-is, split}
 use Rattle.work.specs.Share.{in-full}

@@ -1,10 +1,10 @@
 -- Litters as lent numbers, three a litter: successes, total, group. What a request has to satisfy of them, and of a point.
-use mathlib.Core.Bool.{Bool, true, false, _&&_, cond}
+use mathlib.Core.Bool.{Bool, true, _&&_}
 use mathlib.Core.List.{List}
 use Prim.Native.Nat.{ℕ, zero, suc, _+_, _*_, _/_, _%_}
 use lib.Dec.{leb, eqb}
 use lib.ListN.{length, getD}
-use lib.Ieee.{Float, nan, lt, le}
+use lib.Ieee.{Float, nan, le}
 use Rattle.num.specs.F64.{bits, zero·, eight·}
 use Rattle.num.specs.Helpers.{absOf, isFinite}
 

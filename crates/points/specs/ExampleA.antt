@@ -26,7 +26,6 @@ use Rattle.objective.specs.Litters as litters
 use Rattle.objective.specs.Objective.{rows, objective}
 use Rattle.descent.specs.declared.Status.the-variants.{Converged}
 use Rattle.descent.specs.Descent.{descend}
-use Rattle.request.specs.declared.Bounds.{Bounds}
 use Rattle.request.specs.declared.Request.{Request}
 use Rattle.fit.specs.declared.report.Fit.{Fit}
 use Rattle.request.specs.Request.{validMean, validSd, validMeans, validSds, validControls, ofGroup, twoEach, admits}

@@ -48,8 +48,8 @@ use Rattle.verdict.specs.declared.Attempt.{Attempt}
 use Rattle.verdict.specs.Verdict.{nothingOf, totalsIn, normAt, judgedOf}
 use Rattle.turns.specs.Descend.{refusalOf, descentOf}
 use Rattle.fit.specs.Fit.{fitOf}
-use Rattle.records.specs.declared.Litter.{Litter}
-use Rattle.records.specs.Records.{numbersOf}
+use Rattle.litters.specs.declared.Litter.{Litter}
+use Rattle.litters.specs.Litters.{numbersOf, noRows, withRows, roomOf}
 
 pub one-answer : {A : Type 0} (definition r s : A) → r ≡ definition → s ≡ definition → r ≡ s
 one-answer definition r s e f = e ∙ sym f
@@ -145,6 +145,9 @@ of-search definition r s e f = one-answer (definition []) r s (e []) (f [])
 
 pub of-fit : One2 refusalOf × One6 descentOf × One2 fitOf
 of-fit = (one2 _, one6 _, one2 _)
+
+pub of-litters : One1 (λ (ls : List Litter). withRows ls 0 noRows) × One1 roomOf
+of-litters = (one1 _, one1 _)
 
 -- of lent litters
 pub of-records : One2 (λ (r : Request) (ls : List Litter). fitOf r (numbersOf ls)) × One2 (λ (x : List Float) (ls : List Litter). objectiveOf x (numbersOf ls)) × One1 (λ (ls : List Litter). summaryOf (numbersOf ls))

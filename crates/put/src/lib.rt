@@ -13,11 +13,11 @@ pub fn numbers(v: &[f64], out: &mut [f64])
     }
 }
 
-pub fn counts(v: &[u64], out: &mut [u64])
-    requires { ⌜ length (now v) ≤ length (now out) ⌝ }
-    ensures { λ r. ⌜ now (out .exit) ≡ stored (now (out .entry)) (now (v .entry)) ⌝ }
+pub fn counts(c: &[u64], out: &mut [u64])
+    requires { ⌜ length (now c) ≤ length (now out) ⌝ }
+    ensures { λ r. ⌜ now (out .exit) ≡ stored (now (out .entry)) (now (c .entry)) ⌝ }
 {
-    for i in 0..v.len() {
-        out[i] = v[i];
+    for i in 0..c.len() {
+        out[i] = c[i];
     }
 }

@@ -1,9 +1,10 @@
 -- The litters as the code keeps them: three numbers a litter, in the engine's order, for 128 litters at most.
 use mathlib.Core.Bool.{false, cond}
 use mathlib.Core.List.{List, [], _∷_}
-use Prim.Native.Nat.{ℕ, _+_, _*_}
+use Prim.Native.Nat.{ℕ, _+_}
 use lib.Dec.{ltb}
-use lib.ListN.{length, getD, set, replicate}
+use lib.ListN.{length, getD, replicate}
+use Rattle.litters.specs.Litters.{rowIn}
 use Rattle.read.specs.declared.Lines.{Lines}
 use Rattle.read.specs.declared.Lines.the-variants.{Litters, Departs}
 use Rattle.read.specs.declared.Asking.{Asking}
@@ -11,7 +12,7 @@ use Rattle.read.specs.Request.{Asked, asked, form}
 
 -- the n-th litter put into its place of a buffer; the litter is group, successes, total
 unfoldable pub putLitter : List ℕ → ℕ → List ℕ → List ℕ
-putLitter b n l = cond (ltb n 128) (set (set (set b (3 * n) (getD l 1 0)) (3 * n + 1) (getD l 2 0)) (3 * n + 2) (getD l 0 0)) b
+putLitter b n l = cond (ltb n 128) (rowIn b n (getD l 1 0) (getD l 2 0) (getD l 0 0)) b
 
 -- from the n-th on
 unfoldable pub putLitters : List ℕ → ℕ → List (List ℕ) → List ℕ

@@ -25,9 +25,9 @@ use denote.Lend.{lends-shr-slice}
 use denote.Struct.Steps.{spelt}
 use denote.Steps.{only, owned}
 use denote.Struct.Laws as LL
-use Rattle.records.specs.declared.Litter.{Litter}
-use Rattle.records.proofs.Litter as T
-use Rattle.records.proofs.Litter.Laws as T′
+use Rattle.litters.specs.declared.Litter.{Litter}
+use Rattle.litters.proofs.Litter as T
+use Rattle.litters.proofs.Litter.Laws as T′
 
 -- what the lender keeps
 abbrev pub Kept : List Litter → ℕ → Fml

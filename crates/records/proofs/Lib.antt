@@ -1,2 +1,1 @@
 pub mod LentLitters
-pub mod Turns

@@ -1,74 +1,22 @@
-// Litters as a lent run of records. Each litter's three numbers go into a table, and the table's numbers to the fit, the objective or the summary.
-// The borrow checker does not cover a slice of structs, so `to_table` and the public functions are proved by walks, by hand.
+// The fit, the objective and the summary of a lent run of litter records: each litter's three numbers go into a table, and the table's numbers to the core.
+// The borrow checker does not cover a slice of structs, so the public functions are proved by walks, by hand.
 use fit::Fit;
 use fit::Request;
+use litters::Table;
 use objective::Objective;
 use summary::Summary;
 ghost use mathlib.Core.Path.{_≡_};
-ghost use Prim.Native.Nat.{_≤_};
 ghost use Rattle.objective.specs.Objective.{objectiveOf};
 ghost use Rattle.summary.specs.Summary.{summaryOf};
 ghost use Rattle.fit.specs.Fit.{fitOf};
-ghost use Rattle.records.specs.Records.{numbersOf, noRows, withRow, withRows, roomOf, keptOf};
-
-pub struct Litter {
-    pub successes: u32,
-    pub total: u32,
-    pub group: u32,
-}
-
-// The numbers of 128 litters, three a litter.
-struct Table {
-    numbers: [u32; 384],
-}
-
-fn empty() -> Table
-    ensures { λ r. ⌜ r ≡ noRows ⌝ }
-{
-    Table { numbers: [0; 384] }
-}
-
-// A litter past the last row is left out.
-fn set_row(t: Table, i: usize, l: Litter) -> Table
-    ensures { λ r. ⌜ r ≡ withRow t i l ⌝ }
-{
-    let mut r = t;
-    if i < 128 {
-        let k = 3 * i;
-        r.numbers[k] = l.successes;
-        r.numbers[k + 1] = l.total;
-        r.numbers[k + 2] = l.group;
-    }
-    r
-}
-
-fn to_table(litters: &[Litter]) -> Table
-    ensures { λ r. ⌜ (r ≡ withRows (now (litters .entry)) 0 noRows) × (now (litters .exit) ≡ now (litters .entry)) ⌝ }
-{
-    let mut t = empty();
-    let mut i = 0;
-    while i < litters.len() {
-        t = set_row(t, i, litters[i]);
-        i += 1;
-    }
-    t
-}
-
-// How many of the table's numbers stand for n litters. More than 128 are refused as none are, so none are handed on.
-fn room(n: usize) -> usize
-    ensures { λ k. ⌜ (k ≡ roomOf n) × (k ≤ 384) ⌝ }
-{
-    if 128 < n {
-        return 0;
-    }
-    3 * n
-}
+ghost use Rattle.litters.specs.Litters.{numbersOf, keptOf};
+pub use litters::Litter;
 
 fn fit_in(r: Request, t: Table, n: usize) -> Fit
     ensures { λ f. ⌜ f ≡ fitOf r (keptOf (t .numbers) n) ⌝ }
 {
     let numbers = t.numbers;
-    let k = room(n);
+    let k = litters::room(n);
     fit::fit_probit_normal_binomial(r, &numbers[..k])
 }
 
@@ -76,7 +24,7 @@ fn objective_in(x: [f64; 4], t: Table, n: usize) -> Objective
     ensures { λ r. ⌜ r ≡ objectiveOf x (keptOf (t .numbers) n) ⌝ }
 {
     let numbers = t.numbers;
-    let k = room(n);
+    let k = litters::room(n);
     objective::probit_normal_binomial_objective(x, &numbers[..k])
 }
 
@@ -84,26 +32,26 @@ fn summary_in(t: Table, n: usize) -> Summary
     ensures { λ r. ⌜ r ≡ summaryOf (keptOf (t .numbers) n) ⌝ }
 {
     let numbers = t.numbers;
-    let k = room(n);
+    let k = litters::room(n);
     summary::summarize(&numbers[..k])
 }
 
 pub fn fit_probit_normal_binomial(r: Request, litters: &[Litter]) -> Fit
     ensures { λ f. ⌜ (f ≡ fitOf r (numbersOf (now (litters .entry)))) × (now (litters .exit) ≡ now (litters .entry)) ⌝ }
 {
-    fit_in(r, to_table(litters), litters.len())
+    fit_in(r, litters::to_table(litters), litters.len())
 }
 
 pub fn probit_normal_binomial_objective(point: [f64; 4], litters: &[Litter]) -> Objective
     ensures { λ r. ⌜ (r ≡ objectiveOf point (numbersOf (now (litters .entry)))) × (now (litters .exit) ≡ now (litters .entry)) ⌝ }
 {
-    objective_in(point, to_table(litters), litters.len())
+    objective_in(point, litters::to_table(litters), litters.len())
 }
 
 pub fn summarize(litters: &[Litter]) -> Summary
     ensures { λ r. ⌜ (r ≡ summaryOf (numbersOf (now (litters .entry)))) × (now (litters .exit) ≡ now (litters .entry)) ⌝ }
 {
-    summary_in(to_table(litters), litters.len())
+    summary_in(litters::to_table(litters), litters.len())
 }
 
 // The same with four litters by value: who calls these needs no walk.

@@ -1,12 +1,11 @@
 -- From what was read to what is printed: numbers of bits, the litters in the buffer, and each way an answer is found.
-use mathlib.Core.Path.{_≡_, refl, sym, subst, _∙_, ap}
+use mathlib.Core.Path.{_≡_, refl, sym, subst, _∙_}
 use mathlib.Core.Bool.{Bool, true, false, cond, not}
 use mathlib.Core.List.{List, [], _∷_, _++_, append-assoc, append-nil}
 use Prim.Native.Nat.{ℕ, suc, _+_, _*_, _%_, _^_, _≤_, _<_}
 use native.Mathlib.Omega.{arith}
 use lib.Dec.{T, ltb}
-use lib.ListN.{length, getD, set, take, length-set}
-use lib.Seq.{take-suc-set}
+use lib.ListN.{length, getD, take}
 use lib.Ieee.{Float, nan, inf, fin, binary64, isNan, nanBits}
 use lib.Ieee.Bits.{nanBits-is, nanBits-above}
 use borrow.Author.Tests.{lt-ltb, le-ltb, not-true, not-false}
@@ -16,6 +15,8 @@ use Rattle.fit.specs.Fit.{fitOf}
 use Rattle.fit.specs.Refused.{many-refused}
 use Rattle.read.specs.declared.Asking.{Asking}
 use Rattle.read.specs.Request.{Asked, asked, form, readRequest}
+use Rattle.litters.specs.Litters.{rowIn}
+use Rattle.litters.specs.Kept.{row-length, row-taken}
 use Rattle.read.specs.Rows.{putLitter, putLitters, keptOf, requestSays}
 use Rattle.print.specs.Answer.{refusalText, fitText}
 use Rattle.text.specs.Answer.{requestIn, littersOf, answerTo, answerText}
@@ -37,29 +38,16 @@ module _ (n : ℕ) where
 
 -- ---- the litters in the buffer
 
-module _ (b : List ℕ) (n x y z : ℕ) (room : 3 * n + 2 < length b) where
-  three : take (3 * (n + 1)) (set (set (set b (3 * n) x) (3 * n + 1) y) (3 * n + 2) z) ≡ take (3 * n) b ++ (x ∷ y ∷ z ∷ [])
-  three =
-      let e : 3 * (n + 1) ≡ suc (3 * n + 2) = omega arith in
-      let f : 3 * n + 2 ≡ suc (3 * n + 1) = omega arith in
-      let g : 3 * n + 1 ≡ suc (3 * n) = omega arith in
-      let first = take-suc-set b (3 * n) x (omega arith) in
-      let second = take-suc-set (set b (3 * n) x) (3 * n + 1) y (rw (length-set b (3 * n) x) (omega arith)) in
-      let third = take-suc-set (set (set b (3 * n) x) (3 * n + 1) y) (3 * n + 2) z (rw (length-set (set b (3 * n) x) (3 * n + 1) y, length-set b (3 * n) x) (omega arith)) in
-      ap (λ k. take k (set (set (set b (3 * n) x) (3 * n + 1) y) (3 * n + 2) z)) e ∙ third ∙
-      ap (λ l. l ++ (z ∷ [])) (ap (λ k. take k (set (set b (3 * n) x) (3 * n + 1) y)) f ∙ second ∙ ap (λ l. l ++ (y ∷ [])) (ap (λ k. take k (set b (3 * n) x)) g ∙ first)) ∙
-      rw (append-assoc (take (3 * n) b) (x ∷ []) (y ∷ []), append-assoc (take (3 * n) b) (x ∷ y ∷ []) (z ∷ []))
-
 length-put : (b l : List ℕ) (n : ℕ) → length (putLitter b n l) ≡ length b
 unfolding putLitter
 length-put b l n = by (ltb n 128) where
-  by : (t : Bool) → length (cond t (set (set (set b (3 * n) (getD l 1 0)) (3 * n + 1) (getD l 2 0)) (3 * n + 2) (getD l 0 0)) b) ≡ length b
-  by true = simp length-set
+  by : (t : Bool) → length (cond t (rowIn b n (getD l 1 0) (getD l 2 0) (getD l 0 0)) b) ≡ length b
+  by true = row-length b n (getD l 1 0) (getD l 2 0) (getD l 0 0)
   by false = refl
 
 put-three : (b l : List ℕ) (n : ℕ) → length b ≡ 384 → n < 128 → take (3 * (n + 1)) (putLitter b n l) ≡ take (3 * n) b ++ (getD l 1 0 ∷ getD l 2 0 ∷ getD l 0 0 ∷ [])
 unfolding putLitter
-put-three b l n s m = rw (lt-ltb n 128 m) (three b n (getD l 1 0) (getD l 2 0) (getD l 0 0) (omega arith))
+put-three b l n s m = rw (lt-ltb n 128 m) (row-taken b n (getD l 1 0) (getD l 2 0) (getD l 0 0) (omega arith))
 
 pub kept-litters : (b : List ℕ) (n : ℕ) (ls : List (List ℕ)) → length b ≡ 384 → n + length ls ≤ 128 → take (3 * (n + length ls)) (putLitters b n ls) ≡ take (3 * n) b ++ littersOf ls
 unfolding putLitters littersOf

@@ -40,14 +40,14 @@ use denote.Triple.Clauses.{ensured, lasts}
 use Rattle.request.specs.declared.Request.{Request}
 use Rattle.fit.specs.declared.report.Fit.{Fit}
 use Rattle.fit.specs.Fit.{fitOf}
-use Rattle.records.specs.Records.{numbersOf}
-use Rattle.records.specs.declared.Litter.{Litter}
+use Rattle.litters.specs.Litters.{numbersOf}
+use Rattle.litters.specs.declared.Litter.{Litter}
 use Rattle.request.proofs.Request as Q
 use Rattle.request.proofs.Request.Laws as Q′
 use Rattle.fit.proofs.report.Fit as N
 use Rattle.fit.proofs.report.Fit.Laws as N′
-use Rattle.records.proofs.Litter as L
-use Rattle.records.proofs.Litter.Laws as L′
+use Rattle.litters.proofs.Litter as L
+use Rattle.litters.proofs.Litter.Laws as L′
 use Rattle.records.proofs.LentLitters.{Kept, lends-litters, back-litters}
 use Rattle.records.proofs.fit_probit_normal_binomial as worker
 use Rattle.records.proofs.fit_probit_normal_binomial.Symbol as worker-def

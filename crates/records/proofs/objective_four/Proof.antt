@@ -42,12 +42,12 @@ use denote.Exit.{yes}
 use denote.Triple.Clauses.{ensured, lasts}
 use Rattle.objective.specs.declared.sum.Objective.{Objective}
 use Rattle.objective.specs.Objective.{objectiveOf}
-use Rattle.records.specs.Records.{numbersOf}
-use Rattle.records.specs.declared.Litter.{Litter}
+use Rattle.litters.specs.Litters.{numbersOf}
+use Rattle.litters.specs.declared.Litter.{Litter}
 use Rattle.objective.proofs.sum.Objective as N
 use Rattle.objective.proofs.sum.Objective.Laws as N′
-use Rattle.records.proofs.Litter as L
-use Rattle.records.proofs.Litter.Laws as L′
+use Rattle.litters.proofs.Litter as L
+use Rattle.litters.proofs.Litter.Laws as L′
 use Rattle.records.proofs.LentLitters.{Kept, lends-litters, back-litters}
 use Rattle.records.proofs.probit_normal_binomial_objective as worker
 use Rattle.records.proofs.probit_normal_binomial_objective.Symbol as worker-def

@@ -39,12 +39,12 @@ use denote.Exit.{yes}
 use denote.Triple.Clauses.{ensured, lasts}
 use Rattle.summary.specs.declared.Summary.{Summary}
 use Rattle.summary.specs.Summary.{summaryOf}
-use Rattle.records.specs.Records.{numbersOf}
-use Rattle.records.specs.declared.Litter.{Litter}
+use Rattle.litters.specs.Litters.{numbersOf}
+use Rattle.litters.specs.declared.Litter.{Litter}
 use Rattle.summary.proofs.Summary as N
 use Rattle.summary.proofs.Summary.Laws as N′
-use Rattle.records.proofs.Litter as L
-use Rattle.records.proofs.Litter.Laws as L′
+use Rattle.litters.proofs.Litter as L
+use Rattle.litters.proofs.Litter.Laws as L′
 use Rattle.records.proofs.LentLitters.{Kept, lends-litters, back-litters}
 use Rattle.records.proofs.summarize as worker
 use Rattle.records.proofs.summarize.Symbol as worker-def

@@ -1,8 +1,7 @@
 -- `lgamma::product` meets its contract: what the turns left make of the product so far is the whole.
-use mathlib.Core.Path.{_≡_, refl, sym, _∙_}
+use mathlib.Core.Path.{_≡_, refl}
 use mathlib.Core.Bool.{true, false}
-use Prim.Native.Nat.{ℕ, suc, _+_, _-_, _≤_, _<_}
-use native.Mathlib.Omega.{arith}
+use Prim.Native.Nat.{ℕ, _+_, _-_, _≤_, _<_}
 use borrow.Author.Needs.{needs}
 use lib.Ieee.{Float, le}
 use Rattle.num.specs.F64.{_⊖_, _⊗_, one·}

@@ -43,27 +43,27 @@ use denote.Triple.Spec.{Meets, tripleOf}
 use denote.Triple.Table.{entered, cited}
 use denote.Triple.Walked.{says, Stays, stay-none-slice, walkOf, goes-none-slice, Walks, ends-at, walked, walk-meets}
 use denote.Exit.{yes}
-use Rattle.records.specs.Records.{noLitter, noRows, withRow, withRows}
-use Rattle.records.specs.declared.Litter.{Litter}
-use Rattle.records.specs.declared.Table.{Table}
-use Rattle.records.proofs.Litter as T
-use Rattle.records.proofs.Litter.Laws as T′
-use Rattle.records.proofs.Table as B
-use Rattle.records.proofs.Table.Laws as B′
-use Rattle.records.proofs.Turns.{drop-next, nearer, tail}
-use Rattle.records.proofs.empty as empty
-use Rattle.records.proofs.empty.Symbol as empty-def
-use Rattle.records.proofs.empty.Symbol.{name as #empty}
-use Rattle.records.proofs.empty.Met as empty-thm
-use Rattle.records.proofs.set_row as set-row
-use Rattle.records.proofs.set_row.Symbol as set-row-def
-use Rattle.records.proofs.set_row.Symbol.{name as #set-row}
-use Rattle.records.proofs.set_row.Met as set-row-thm
-use Rattle.records.proofs.to_table.Key.{name as #to-table}
-use Rattle.records.proofs.to_table as f
-use Rattle.records.proofs.to_table.Statement as stated
-use Rattle.records.proofs.to_table.Code as code
-use Rattle.records.proofs.to_table.Code.Mir as body
+use Rattle.litters.specs.Litters.{noLitter, noRows, withRow, withRows}
+use Rattle.litters.specs.declared.Litter.{Litter}
+use Rattle.litters.specs.declared.Table.{Table}
+use Rattle.litters.proofs.Litter as T
+use Rattle.litters.proofs.Litter.Laws as T′
+use Rattle.litters.proofs.Table as B
+use Rattle.litters.proofs.Table.Laws as B′
+use Rattle.litters.proofs.Turns.{drop-next, nearer, tail}
+use Rattle.litters.proofs.empty as empty
+use Rattle.litters.proofs.empty.Symbol as empty-def
+use Rattle.litters.proofs.empty.Symbol.{name as #empty}
+use Rattle.litters.proofs.empty.Met as empty-thm
+use Rattle.litters.proofs.set_row as set-row
+use Rattle.litters.proofs.set_row.Symbol as set-row-def
+use Rattle.litters.proofs.set_row.Symbol.{name as #set-row}
+use Rattle.litters.proofs.set_row.Met as set-row-thm
+use Rattle.litters.proofs.to_table.Key.{name as #to-table}
+use Rattle.litters.proofs.to_table as f
+use Rattle.litters.proofs.to_table.Statement as stated
+use Rattle.litters.proofs.to_table.Code as code
+use Rattle.litters.proofs.to_table.Code.Mir as body
 
 abbrev stayed : Stays (f.ended .signature .params) (f.ended .kept)
 stayed = (stay-none-slice (0 ∷ []) tt (plain (λ _. T.the-row)) yes, tt)
@@ -269,5 +269,5 @@ to-table-spec 𝓤 H 𝓜 𝓖 𝓡 =
     entered 𝓤 H (tripleOf 𝓤 H (𝓖 .A) f.signature (f.spec 𝓤 H (𝓖 .A) (𝓜 .mem) (𝓡 .run)))
     (tables 𝓤 H 𝓜 𝓡 code.env .C) (tables 𝓤 H 𝓜 𝓡 code.env .Λ) #to-table code.function (code.unfolded 𝓤 H 𝓜 𝓡)
     (to-table-meets 𝓤 H (𝓖 .A) (givenOf 𝓤 H 𝓜 𝓖) (𝓜 .mem) (𝓡 .run) (tablesOf 𝓤 H 𝓜 (tables 𝓤 H 𝓜 𝓡 code.env))
-    (cited 𝓤 H (Empty 𝓤 H (𝓖 .A) (𝓜 .mem) (𝓡 .run)) 𝓜 𝓡 code.env #empty empty-def.routine code.calls-records·empty (empty-thm.met 𝓤 H 𝓜 𝓖 𝓡))
-    (cited 𝓤 H (SetRow 𝓤 H (𝓖 .A) (𝓜 .mem) (𝓡 .run)) 𝓜 𝓡 code.env #set-row set-row-def.routine code.calls-records·set-row (set-row-thm.met 𝓤 H 𝓜 𝓖 𝓡)))
+    (cited 𝓤 H (Empty 𝓤 H (𝓖 .A) (𝓜 .mem) (𝓡 .run)) 𝓜 𝓡 code.env #empty empty-def.routine code.calls-litters·empty (empty-thm.met 𝓤 H 𝓜 𝓖 𝓡))
+    (cited 𝓤 H (SetRow 𝓤 H (𝓖 .A) (𝓜 .mem) (𝓡 .run)) 𝓜 𝓡 code.env #set-row set-row-def.routine code.calls-litters·set-row (set-row-thm.met 𝓤 H 𝓜 𝓖 𝓡)))

@@ -2,8 +2,8 @@
 use native.Mathlib.Omega.{arith}
 use borrow.Author.Needs.{needs}
 use borrow.Author.Tests.{lt-leb, le-leb}
-use Rattle.records.proofs.room.Statement.{statement}
-use Rattle.records.proofs.room.Tie as tie
+use Rattle.litters.proofs.room.Statement.{statement}
+use Rattle.litters.proofs.room.Tie as tie
 
 many : tie.Need-returns
 many c = (rw (lt-leb _ 128 (c .if1 .taken)), omega arith)

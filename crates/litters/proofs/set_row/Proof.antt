@@ -2,9 +2,9 @@
 use mathlib.Core.Path.{_≡_}
 use lib.ListN.{length}
 use borrow.Author.Needs.{needs}
-use Rattle.records.specs.Kept.{row-out}
-use Rattle.records.proofs.set_row.Statement.{statement}
-use Rattle.records.proofs.set_row.Tie as tie
+use Rattle.litters.specs.Kept.{row-out}
+use Rattle.litters.proofs.set_row.Statement.{statement}
+use Rattle.litters.proofs.set_row.Tie as tie
 
 past : tie.Need-returns-2
 past c =

@@ -4,13 +4,17 @@ use mathlib.Core.List.{List, [], _∷_}
 use Prim.Native.Nat.{ℕ, _+_, _*_}
 use lib.Dec.{leb}
 use lib.ListN.{set, take, replicate}
-use Rattle.records.specs.declared.Litter.{Litter}
-use Rattle.records.specs.declared.Table.{Table}
+use Rattle.litters.specs.declared.Litter.{Litter}
+use Rattle.litters.specs.declared.Table.{Table}
 
 -- successes, total, group
 unfoldable pub numbersOf : List Litter → List ℕ
 numbersOf [] = []
 numbersOf (l ∷ ls) = l .successes ∷ l .total ∷ l .group ∷ numbersOf ls
+
+-- a row, the three numbers of litter i, put into its place; past the last place nothing is put
+abbrev pub rowIn : List ℕ → ℕ → ℕ → ℕ → ℕ → List ℕ
+rowIn b i successes total group = set (set (set b (3 * i) successes) (3 * i + 1) total) (3 * i + 2) group
 
 -- ---- the code's table
 
@@ -21,9 +25,9 @@ noLitter = record { successes = 0; total = 0; group = 0 }
 abbrev pub noRows : Table
 noRows = record { numbers = replicate 384 0 }
 
--- the i-th litter put into its place; past the last place nothing is put
+-- the i-th litter put into its place
 abbrev pub withRow : Table → ℕ → Litter → Table
-withRow t i l = record { numbers = set (set (set (t .numbers) (3 * i) (l .successes)) (3 * i + 1) (l .total)) (3 * i + 2) (l .group) }
+withRow t i l = record { numbers = rowIn (t .numbers) i (l .successes) (l .total) (l .group) }
 
 -- the first of them at the i-th place
 abbrev pub withRows : List Litter → ℕ → Table → Table

@@ -1,0 +1,2 @@
+pub mod Litters
+pub mod Kept
