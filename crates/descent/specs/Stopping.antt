@@ -1,5 +1,5 @@
 -- How a descent stops, over any problem: every answer has the one status that its norm and its counts give, and keeps within both limits.
--- A refusal of the objective, at the start or at a candidate, ends the descent with that refusal: `>>=` past a `stop` is that `stop`.
+-- `ev` answers the descent's questions. A refusal of it, at the start or at a candidate, ends the descent with that refusal: `>>=` past a `stop` is that `stop`.
 use mathlib.Core.Path.{_≡_}
 use mathlib.Core.Bool.{Bool, true, false, cond}
 use mathlib.Core.List.{List, [], _∷_}
@@ -11,10 +11,12 @@ use lib.Ieee.{Float, le}
 use borrow.Author.Tests.{leb-true, leb-false, le-leb, lt-leb}
 use Rattle.num.specs.F64.{half·, one·, _⊗_}
 use Rattle.work.specs.Work.{Work}
-use Rattle.work.specs.Always.{Always, holds, chosen, tested, passed, weaker, anything}
+use Rattle.work.specs.Given.{Given, Always, holds, hears, weaker, tested, passed, anything}
+use Rattle.work.specs.Through.{through, answered}
 use Rattle.descent.specs.declared.Status.{Status}
+use Rattle.descent.specs.declared.Trial.{Trial}
 use Rattle.descent.specs.declared.Status.the-variants.{Converged, EvaluationLimit, IterationLimit, LineSearchFailed}
-use Rattle.descent.specs.Descent.{Problem, Trial, Step, to, nowhere, Descended, idle, accepts, try, orElse, search, ended, failed, descend, descent}
+use Rattle.descent.specs.Descent.{Problem, Asked, Step, to, nowhere, Descended, idle, accepts, try, orElse, search, ended, failed, descend, descent}
 
 -- The status, by the norm and the tolerance, the evaluations e of at most `most`, and the steps k of at most `turns`.
 unfoldable pub statusOf : Float → Float → ℕ → ℕ → ℕ → ℕ → Status
@@ -23,7 +25,7 @@ statusOf norm tolerance most turns e k =
     (cond (leb most e) EvaluationLimit
     (cond (leb turns k) IterationLimit LineSearchFailed))
 
-module _ {E Y X O D : Type 0} (p : Problem E Y X O D) where
+module _ {X O D : Type 0} (p : Problem X O D) where
   -- whether the norm at the point reported is at most the tolerance
   abbrev pub near : Descended X O → Bool
   near r = le (p .norm (r .x) (r .v)) (p .tolerance)
@@ -34,7 +36,10 @@ module _ {E Y X O D : Type 0} (p : Problem E Y X O D) where
     pub within-iterations : r .iterations ≤ p .turns
 
 -- ---- the proof. Q is whatever the objective's evaluation at a point always gives there. The start is evaluated even where `most` is 0, so the counts want 1 ≤ most.
-module _ {E Y X O D : Type 0} (p : Problem E Y X O D) (Q : X → O → Type 0) (gives : (x : X) → Always (Q x) (p .evaluate x)) where
+module _ {X O D : Type 0} (p : Problem X O D) (Q : X → O → Type 0) where
+  abbrev Every : {A : Type 0} → (A → Type 0) → Work (Asked X) O A → Type 0
+  Every P w = Given (λ (q : Asked X) (v : O). Q (q .at) v) P w
+
   record Answer (r : Descended X O) : Type 0 where
     stopped : 1 ≤ p .most → Stopped p r
     evaluated : Q (r .x) (r .v)
@@ -51,33 +56,33 @@ module _ {E Y X O D : Type 0} (p : Problem E Y X O D) (Q : X → O → Type 0) (
     within : Within n
     reached : Reached s
 
-  by-step : {B : Type 0} {R : B → Type 0} {s : Step X O} {go : X → O → Work E Y B} {halt : Work E Y B} → Reached s → ((x : X) (v : O) → Q x v → Always R (go x v)) → Always R halt → Always R (orElse p go halt s)
+  by-step : {B : Type 0} {R : B → Type 0} {s : Step X O} {go : X → O → Work (Asked X) O B} {halt : Work (Asked X) O B} → Reached s → ((x : X) (v : O) → Q x v → Every R (go x v)) → Every R halt → Every R (orElse p go halt s)
   by-step (there q) g h = g _ _ q
   by-step none g h = h
 
-  tried : (x : X) (v : O) (d : D) (alpha : Float) (e : ℕ) → e < p .most → Always (λ t. Sought (t .evaluations) (t .step)) (try p x v d alpha e)
+  tried : (x : X) (v : O) (d : D) (alpha : Float) (e : ℕ) (ts : List Trial) → e < p .most → Every (λ t. Sought (t .evaluations) (t .step)) (try p x v d alpha e ts)
   unfolding try
-  tried x v d alpha e h =
+  tried x v d alpha e ts h =
       let next = p .candidate x d alpha in
-      chosen (idle p x v next) (holds (record { within = λ o. omega arith; reached = none }))
-      (passed (gives next) (λ c q.
-      chosen (accepts p x v next c) (holds (record { within = λ o. omega arith; reached = there q }))
-      (holds (record { within = λ o. omega arith; reached = none }))))
+      tested (idle p x v next) (λ t. holds (record { within = λ o. omega arith; reached = none }))
+      (λ t. hears (λ c q.
+      tested (accepts p x v next c) (λ t. holds (record { within = λ o. omega arith; reached = there q }))
+      (λ t. holds (record { within = λ o. omega arith; reached = none }))))
 
-  sought : (x : X) (v : O) (d : D) (n : ℕ) (alpha : Float) (e : ℕ) (ts : List Trial) → Within e → Always (λ s. Sought (s .evaluations) (s .step)) (search p x v d n alpha e ts)
+  sought : (x : X) (v : O) (d : D) (n : ℕ) (alpha : Float) (e : ℕ) (ts : List Trial) → Within e → Every (λ s. Sought (s .evaluations) (s .step)) (search p x v d n alpha e ts)
   unfolding search
   sought x v d zero alpha e ts h = holds (record { within = h; reached = none })
   sought x v d (suc n) alpha e ts h =
       tested (leb (p .most) e) (λ t. holds (record { within = h; reached = none }))
       (λ t.
-      passed (tried x v d alpha e (leb-false (p .most) e t)) (λ r g.
+      passed (tried x v d alpha e ts (leb-false (p .most) e t)) (λ r g.
       by-step (g .reached) (λ next c q. holds (record { within = g .within; reached = g .reached }))
       (sought x v d n (alpha ⊗ half·) (r .evaluations) (r .trial ∷ ts) (g .within))))
 
   answer : (s : Status) (x : X) (v : O) (e k : ℕ) (ts : List Trial) → Q x v → Within e → k ≤ p .turns → s ≡ statusOf (p .norm x v) (p .tolerance) (p .most) (p .turns) e k → Answer (ended p s x v e k ts)
   answer s x v e k ts q h l t = record { stopped = λ o. record { status = t; within-evaluations = h o; within-iterations = l }; evaluated = q }
 
-  answers : (n : ℕ) (x : X) (v : O) (e k : ℕ) (ts : List Trial) → Q x v → Within e → k + n ≡ p .turns → Always Answer (descend p n x v e k ts)
+  answers : (n : ℕ) (x : X) (v : O) (e k : ℕ) (ts : List Trial) → Q x v → Within e → k + n ≡ p .turns → Every Answer (descend p n x v e k ts)
   unfolding descend statusOf
   answers zero x v e k ts q h l =
       tested (le (p .norm x v) (p .tolerance)) (λ t. holds (answer Converged x v e k ts q h (omega arith) (rw t)))
@@ -93,18 +98,18 @@ module _ {E Y X O D : Type 0} (p : Problem E Y X O D) (Q : X → O → Type 0) (
       by-step (g .reached) (λ next c q′. answers n next c (s .evaluations) (k + 1) (s .trials) q′ (g .within) (omega arith))
       (holds (answer (failed p (s .evaluations)) x v (s .evaluations) k (s .trials) q (g .within) (omega arith) (rw (f, lt-leb (p .turns) k (omega arith))))))))
 
-  descent-answers : (x : X) → Always Answer (descent p x)
-  descent-answers x = passed (gives x) (λ v q. answers (p .turns) x v 1 0 [] q (λ o. o) (omega arith))
+  descent-answers : (x : X) → Every Answer (descent p x)
+  descent-answers x = hears (λ v q. answers (p .turns) x v 1 0 [] q (λ o. o) (omega arith))
 
 -- ---- the theorems
-module _ {E Y X O D : Type 0} (p : Problem E Y X O D) where
+module _ {X O D : Type 0} (p : Problem X O D) {E Y : Type 0} (ev : Asked X → Work E Y O) where
   -- Every answer of a descent has the one status that its norm and its counts give, and keeps within both limits.
-  pub stops : 1 ≤ p .most → (x : X) → Always (Stopped p) (descent p x)
-  stops h x = weaker (λ r a. a .stopped h) (descent-answers p (λ x v. Unit {0}) (λ x. anything (λ v. tt) (p .evaluate x)) x)
+  pub stops : 1 ≤ p .most → (x : X) → Always (Stopped p) (through ev (descent p x))
+  stops h x = weaker (λ r a. a .stopped h) (answered ev (λ q. anything (λ v. tt) (ev q)) (descent-answers p (λ x v. Unit {0}) x))
 
-  -- The value reported is one that the objective's evaluation at the point reported gave: it has whatever every such value has.
-  pub reports-evaluated : (Q : X → O → Type 0) → ((x : X) → Always (Q x) (p .evaluate x)) → (x : X) → Always (λ r. Q (r .x) (r .v)) (descent p x)
-  reports-evaluated Q gives x = weaker (λ r a. a .evaluated) (descent-answers p Q gives x)
+  -- The value reported is one that was given for the point reported: it has whatever is known of every value given there.
+  pub reports-evaluated : {G : E → Y → Type 0} (Q : X → O → Type 0) → ((q : Asked X) → Given G (Q (q .at)) (ev q)) → (x : X) → Given G (λ r. Q (r .x) (r .v)) (through ev (descent p x))
+  reports-evaluated Q h x = weaker (λ r a. a .evaluated) (answered ev h (descent-answers p Q x))
 
 -- which tests each status stands for
 record ByTests (s : Status) (a b c : Bool) : Type 0 where
@@ -120,7 +125,7 @@ by-tests s false false true e = record { converged = (λ h. cc, λ h. cc); evalu
 by-tests s false false false e = record { converged = (λ h. cc, λ h. cc); evaluation-limit = (λ h. (cc, cc), λ h. cc); iteration-limit = (λ h. (cc, cc, cc), λ h. cc); line-search-failed = (λ h. (cc, cc, cc), λ h. cc) }
 
 -- ---- each status, exactly; a norm that is NaN is not at most the tolerance
-module _ {E Y X O D : Type 0} {p : Problem E Y X O D} {r : Descended X O} (s : Stopped p r) where
+module _ {X O D : Type 0} {p : Problem X O D} {r : Descended X O} (s : Stopped p r) where
   tests : ByTests (r .status) (near p r) (leb (p .most) (r .evaluations)) (leb (p .turns) (r .iterations))
   unfolding statusOf
   tests = by-tests (r .status) (near p r) (leb (p .most) (r .evaluations)) (leb (p .turns) (r .iterations)) (s .status)

@@ -17,20 +17,25 @@ use Rattle.posterior.specs.declared.integrand.Point.{Point}
 use Rattle.posterior.specs.Integrand.{Eval, at}
 use Rattle.descent.specs.declared.Status.{Status}
 use Rattle.descent.specs.declared.Status.the-variants.{NoStatus}
+use Rattle.work.specs.Through.{through}
 use Rattle.descent.specs.Descent.{descent}
-use Rattle.objective.specs.declared.totals.Totals.{Totals}
+use Rattle.value.specs.declared.Totals.{Totals}
 use Rattle.objective.specs.Litters.{countOf}
 use Rattle.request.specs.declared.Request.{Request}
-use Rattle.verdict.specs.declared.Plan.{Plan}
-use Rattle.turns.specs.declared.Descent.{Descent}
+use Rattle.stepper.specs.declared.Plan.{Plan}
+use Rattle.course.specs.declared.Course.{Course}
 use Rattle.fit.specs.declared.report.Fit.{Fit}
+use Rattle.fit.specs.declared.report.Seen.{Seen}
 use Rattle.request.specs.Request.{admits, validLimit, startOf, lowOf, highOf}
-use Rattle.verdict.specs.Verdict.{normAt}
-use Rattle.search.specs.Search.{problemOf}
-use Rattle.turns.specs.Descend.{toDescent, noDescended}
+use Rattle.trial.specs.Judged.{normAt}
+use Rattle.stepper.specs.Machine.{problemOf}
+use Rattle.drive.specs.Drive.{valueAt, drivenOf}
+use Rattle.why.specs.declared.Why.{Why}
+use Rattle.why.specs.declared.Why.the-variants.{Unmade}
+use Rattle.why.specs.Why.{whyIn}
 
 abbrev pub planOf : Request → Plan
-planOf r = record { lo = lowOf r; hi = highOf r; tolerance = r .tolerance; most = r .evaluations; turns = r .iterations; limit = r .quadrature }
+planOf r = record { lo = lowOf r; hi = highOf r; tolerance = r .tolerance; most = r .evaluations; turns = r .iterations }
 
 pub record Report : Type 0 where
   pub status : Status
@@ -78,7 +83,7 @@ reportOf r n status x v e k =
 unfoldable pub fit : List Pair → Request → List ℕ → Work Eval Point Report
 fit rule r ls =
     cond (admits r ls)
-    (descent (problemOf rule ls (planOf r)) (startOf r) >>= λ d. ret (reportOf r (countOf ls) (d .status) (d .x) (d .v) (d .evaluations) (d .iterations)))
+    (through (λ q. valueAt rule ls (q .at)) (descent (problemOf (planOf r)) (startOf r)) >>= λ d. ret (reportOf r (countOf ls) (d .status) (d .x) (d .v) (d .evaluations) (d .iterations)))
     (stop invalid)
 
 -- ---- the code's answers
@@ -107,12 +112,13 @@ noReport =
 abbrev pub refusedOf : Ending → ℕ → Fit
 refusedOf end used = toFit end used noReport
 
-unfoldable pub wholeOf : List Pair → List ℕ → Plan → List Float → Descent
-wholeOf rule ls p x = told toDescent noDescended (metered at (p .limit .0) 0 (descent (problemOf rule ls p) x))
+-- the descent under the request's limit, with the n-th trial watched
+unfoldable pub wholeOf : Request → List ℕ → ℕ → Course
+wholeOf r ls n = drivenOf legendreOf ls (planOf r) (r .quadrature .0) n (startOf r)
 
-unfoldable pub reportedOf : Request → ℕ → Descent → Fit
+unfoldable pub reportedOf : Request → ℕ → Course → Fit
 reportedOf r n d =
-    cond (isRefused (d .end)) (refusedOf (d .end) (d .used .0)) (toFit Answered (d .used .0) (reportOf r n (d .status) (d .x) (d .v) (d .evaluations .0) (d .iterations .0)))
+    cond (isRefused (d .end)) (refusedOf (d .end) (d .used)) (toFit Answered (d .used) (reportOf r n (d .status) (d .x) (d .v) (d .evaluations .0) (d .iterations .0)))
 
 unfoldable pub limitedFit : ℕ → Request → List ℕ → Fit
 limitedFit limit r ls = told toFit noReport (metered at limit 0 (fit legendreOf r ls))
@@ -120,3 +126,14 @@ limitedFit limit r ls = told toFit noReport (metered at limit 0 (fit legendreOf 
 -- a work limit that is out of range is refused as every other fault is
 unfoldable pub fitOf : Request → List ℕ → Fit
 fitOf r ls = cond (validLimit (r .quadrature .0)) (limitedFit (r .quadrature .0) r ls) (refusedOf InvalidInput 0)
+
+-- ---- with a trial watched: the fit is the same, whichever it is
+
+unfoldable pub seenOf : Request → List ℕ → ℕ → Seen
+seenOf r ls n = record { fit = reportedOf r (countOf ls) (wholeOf r ls n); why = whyIn (wholeOf r ls n) }
+
+unfoldable pub whyFor : Request → List ℕ → ℕ → Why
+whyFor r ls n = cond (validLimit (r .quadrature .0)) (cond (admits r ls) (whyIn (wholeOf r ls n)) Unmade) Unmade
+
+unfoldable pub watchedOf : Request → List ℕ → ℕ → Seen
+watchedOf r ls n = record { fit = fitOf r ls; why = whyFor r ls n }

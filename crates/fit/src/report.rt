@@ -1,19 +1,15 @@
 // The fit of a request, and its report.
+use course::Course;
 use descent::Status;
-use legendre::Pair;
 use request::Request;
-use turns::Descent;
-use verdict::Plan;
+use stepper::Plan;
+use why::Why;
 use work::Ending;
 use work::FitEvaluations;
 use work::Iterations;
 use work::QuadratureEvaluations;
 ghost use mathlib.Core.Path.{_≡_};
-ghost use Prim.Native.Nat.{_^_, _<_};
-ghost use Rattle.legendre.specs.Legendre.{legendreOf};
-ghost use Rattle.objective.specs.Litters.{countOf};
-ghost use Rattle.request.specs.Request.{startOf};
-ghost use Rattle.fit.specs.Fit.{planOf, sdsOf, onBound, activeOf, refusedOf, wholeOf, reportedOf, fitOf};
+ghost use Rattle.fit.specs.Fit.{planOf, sdsOf, onBound, activeOf, refusedOf, reportedOf, seenOf, fitOf, watchedOf};
 
 // `active` marks the coordinates that lie on a bound: two means, then two variances.
 pub struct Fit {
@@ -28,6 +24,11 @@ pub struct Fit {
     pub quadrature: QuadratureEvaluations,
     pub litters: u64,
     pub active: [bool; 4],
+}
+
+pub struct Seen {
+    pub fit: Fit,
+    pub why: Why,
 }
 
 fn refusal(end: Ending, used: QuadratureEvaluations) -> Fit
@@ -53,14 +54,12 @@ fn plan(r: Request) -> Plan
 {
     let most = r.evaluations;
     let turns = r.iterations;
-    let limit = r.quadrature;
     Plan {
         lo: request::low(r),
         hi: request::high(r),
         tolerance: r.tolerance,
         most,
         turns,
-        limit,
     }
 }
 
@@ -89,11 +88,11 @@ fn active(x: [f64; 4], lo: [f64; 4], hi: [f64; 4]) -> [bool; 4]
     [a, b, c, d]
 }
 
-fn reported(r: Request, n: u64, d: Descent) -> Fit
+fn reported(r: Request, n: u64, d: Course) -> Fit
     ensures { λ f. ⌜ f ≡ reportedOf r n d ⌝ }
 {
     let end = d.end;
-    let quadrature = d.used;
+    let quadrature = QuadratureEvaluations(d.used);
     if work::refused(end) {
         return refusal(end, quadrature);
     }
@@ -117,7 +116,7 @@ fn reported(r: Request, n: u64, d: Descent) -> Fit
         means: [a, b],
         sds: [first, second],
         nll: v.nll,
-        norm: verdict::norm_at(lo, hi, x, v),
+        norm: trial::norm_at(lo, hi, x, v),
         evaluations,
         iterations,
         quadrature,
@@ -126,37 +125,47 @@ fn reported(r: Request, n: u64, d: Descent) -> Fit
     }
 }
 
-fn whole(litters: &[u32], rule: [Pair; 16], p: Plan, x: [f64; 4]) -> Descent
-    requires { ⌜ (p .limit .0 < 2 ^ 63) × (p .most .0 < 2 ^ 63) × (p .turns .0 < 2 ^ 63) ⌝ }
-    ensures { λ r. ⌜ r ≡ wholeOf rule (now (litters .entry)) p x ⌝ }
-{
-    let limit = p.limit;
-    let o = objective::limited_objective(rule, x, litters, limit);
-    let end = o.end;
-    let used = o.used;
-    if work::refused(end) {
-        return turns::refusal(end, used);
-    }
-    turns::descend(litters, rule, p, x, verdict::totals_of(o), used)
-}
-
-fn fit_admitted(r: Request, litters: &[u32]) -> Fit
-    requires { ⌜ (r .quadrature .0 < 2 ^ 63) × (r .evaluations .0 < 2 ^ 63) × (r .iterations .0 < 2 ^ 63) ⌝ }
-    ensures { λ f. ⌜ f ≡ reportedOf r (countOf (now (litters .entry))) (wholeOf legendreOf (now (litters .entry)) (planOf r) (startOf r)) ⌝ }
+fn fit_admitted(r: Request, litters: &[u32], wanted: u64) -> Seen
+    ensures { λ s. ⌜ s ≡ seenOf r (now (litters .entry)) wanted ⌝ }
 {
     let n = litters.len() / 3;
-    let d = whole(litters, legendre::legendre(), plan(r), request::start(r));
-    reported(r, n as u64, d)
+    let d = drive::run(
+        litters,
+        legendre::legendre(),
+        plan(r),
+        r.quadrature.0,
+        request::start(r),
+        wanted,
+    );
+    let fit = reported(r, n as u64, d);
+    let why = why::watched(d);
+    Seen { fit, why }
+}
+
+// The fit, and why the trial of the number wanted ended as it did.
+pub fn fit_watched(r: Request, litters: &[u32], wanted: u64) -> Seen
+    ensures { λ s. ⌜ (s ≡ watchedOf r (now (litters .entry)) wanted) × (now (litters .exit) ≡ now (litters .entry)) ⌝ }
+{
+    if !request::up_to(20000000, r.quadrature.0) {
+        let fit = refusal(Ending::InvalidInput, QuadratureEvaluations(0));
+        return Seen {
+            fit,
+            why: Why::Unmade,
+        };
+    }
+    if !request::admitted(r, litters) {
+        let fit = refusal(Ending::InvalidInput, QuadratureEvaluations(0));
+        return Seen {
+            fit,
+            why: Why::Unmade,
+        };
+    }
+    fit_admitted(r, litters, wanted)
 }
 
 pub fn fit_probit_normal_binomial(r: Request, litters: &[u32]) -> Fit
     ensures { λ f. ⌜ (f ≡ fitOf r (now (litters .entry))) × (now (litters .exit) ≡ now (litters .entry)) ⌝ }
 {
-    if !request::up_to(20000000, r.quadrature.0) {
-        return refusal(Ending::InvalidInput, QuadratureEvaluations(0));
-    }
-    if !request::admitted(r, litters) {
-        return refusal(Ending::InvalidInput, QuadratureEvaluations(0));
-    }
-    fit_admitted(r, litters)
+    let s = fit_watched(r, litters, 0);
+    s.fit
 }

@@ -15,7 +15,7 @@ use Rattle.legendre.specs.declared.Pair.{Pair}
 use Rattle.posterior.specs.Integrand.{at}
 use Rattle.row.specs.declared.share.Row.{Row}
 use Rattle.row.specs.Share.{noShare, rowOf}
-use Rattle.objective.specs.declared.totals.Totals.{Totals}
+use Rattle.value.specs.declared.Totals.{Totals}
 use Rattle.objective.specs.declared.sum.Objective.{Objective}
 use Rattle.objective.specs.Litters.{groupAt, validLitters, validPoint}
 use Rattle.objective.specs.Totals.{indexOf, accumulatedOf}

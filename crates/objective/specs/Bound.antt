@@ -19,9 +19,9 @@ use Rattle.legendre.specs.declared.Pair.{Pair}
 use Rattle.legendre.specs.Legendre.{legendreOf}
 use Rattle.posterior.specs.Integrand.{at}
 use Rattle.row.specs.Bound.{share-at-most}
-use Rattle.objective.specs.declared.totals.Totals.{Totals}
+use Rattle.value.specs.declared.Totals.{Totals}
 use Rattle.objective.specs.Litters.{countOf, validLitters, validPoint}
-use Rattle.objective.specs.Totals.{noTotals}
+use Rattle.value.specs.Totals.{noTotals}
 use Rattle.objective.specs.Objective.{rows, admits, objective, toObjective, limitedOf, objectiveOf}
 
 and-first : (a b : Bool) → (a && b) ≡ true → a ≡ true

@@ -15,10 +15,11 @@ use Rattle.posterior.specs.declared.integrand.Point.{Point}
 use Rattle.posterior.specs.Integrand.{Eval, at}
 use Rattle.row.specs.declared.share.Row.{Row}
 use Rattle.row.specs.Share.{Share, share, rowOf}
-use Rattle.objective.specs.declared.totals.Totals.{Totals}
+use Rattle.value.specs.declared.Totals.{Totals}
+use Rattle.value.specs.Totals.{noTotals}
 use Rattle.objective.specs.declared.sum.Objective.{Objective}
 use Rattle.objective.specs.Litters.{countOf, successesAt, totalAt, groupAt, validLitters, validPoint}
-use Rattle.objective.specs.Totals.{indexOf, noTotals, withShare}
+use Rattle.objective.specs.Totals.{indexOf, withShare}
 
 -- the i-th litter's share, at its group's mean and variance
 abbrev pub shareAt : List Pair → List Float → List ℕ → ℕ → Work Eval Point Share

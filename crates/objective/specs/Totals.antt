@@ -3,12 +3,12 @@ use mathlib.Core.Bool.{cond}
 use mathlib.Core.List.{List}
 use Prim.Native.Nat.{ℕ, _+_, _*_}
 use lib.Dec.{ltb}
-use lib.ListN.{getD, set, replicate}
+use lib.ListN.{getD, set}
 use lib.Ieee.{Float, nan}
-use Rattle.num.specs.F64.{_⊕_, zero·}
+use Rattle.num.specs.F64.{_⊕_}
 use Rattle.num.specs.Helpers.{maxOf}
 use Rattle.row.specs.Share.{Share}
-use Rattle.objective.specs.declared.totals.Totals.{Totals}
+use Rattle.value.specs.declared.Totals.{Totals}
 
 -- a litter's mean is coordinate 0 or 1, its variance two further on
 abbrev pub indexOf : ℕ → ℕ
@@ -30,9 +30,6 @@ accumulatedOf t i nll gradient hessian refinement =
       hessian = summedHessian (t .hessian) i hessian;
       refinement = maxOf (t .refinement) refinement;
     }
-
-abbrev pub noTotals : Totals
-noTotals = record { nll = zero·; gradient = replicate 4 zero·; hessian = replicate 16 zero·; refinement = zero· }
 
 abbrev pub withShare : Totals → ℕ → Share → Totals
 withShare t i s = accumulatedOf t i (s .nll) (s .gradient) (s .hessian) (s .refinement)

@@ -1,7 +1,7 @@
 // The objective at a point: the litters' shares, each under what is left of the limit, summed in their order.
-use crate::totals::Totals;
 use legendre::Pair;
 use row::Row;
+use value::Totals;
 use work::Ending;
 use work::QuadratureEvaluations;
 ghost use mathlib.Core.Path.{_≡_};

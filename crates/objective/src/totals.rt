@@ -1,15 +1,9 @@
 // The sums of the litters' shares: gradient by coordinate, Hessian by rows of the four coordinates.
 use row::Row;
+use value::Totals;
 ghost use mathlib.Core.Path.{_≡_};
 ghost use Prim.Native.Nat.{_<_};
 ghost use Rattle.objective.specs.Totals.{indexOf, accumulatedOf};
-
-pub struct Totals {
-    pub nll: f64,
-    pub gradient: [f64; 4],
-    pub hessian: [f64; 16],
-    pub refinement: f64,
-}
 
 pub fn index(group: u32) -> usize
     ensures { λ r. ⌜ (r ≡ indexOf group) × (r < 2) ⌝ }

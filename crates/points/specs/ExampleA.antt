@@ -25,6 +25,7 @@ use Rattle.row.specs.Share.{share}
 use Rattle.objective.specs.Litters as litters
 use Rattle.objective.specs.Objective.{rows, objective}
 use Rattle.descent.specs.declared.Status.the-variants.{Converged}
+use Rattle.work.specs.Through.{through}
 use Rattle.descent.specs.Descent.{descend}
 use Rattle.request.specs.declared.Request.{Request}
 use Rattle.fit.specs.declared.report.Fit.{Fit}
@@ -70,5 +71,5 @@ answer-a =
 -- four evaluations are enough; three give WorkBudget with count 3; no iterations are InvalidInput
 pub example-a-is :
     (fitOf (example-a 10 4) four-litters ≡ answer-a) × (fitOf (example-a 10 3) four-litters ≡ refusedOf WorkBudget 3) × (fitOf (example-a 0 4) four-litters ≡ refusedOf InvalidInput 0)
-unfolding fitOf limitedFit fit sdsOf activeOf projectOf normOf admits twoEach ofGroup validControls validSds validMeans validSd validMean descend objective rows litters.validPoint litters.validVariance litters.validMean litters.validLitters litters.validFrom litters.validLitter share coefficientOf integrand.aloneOf integrand.atOf integrand.integrandOf conditionalOf combinedOf normalOf normalCentre _>>=_ metered lgammaOf lgammaByProduct lgammaBelowOne productOf productFrom erfcOf erfcPos erfcTail erfcRow erfcRows logOf logParts logSmall logRow logRows expOf expLow expBelow expAbove expFinish expFar expRow expRows sqrtOf absOf isFinite maxOf minOf clampOf powiOf powiFrom leadingZeros toBits add sub mul div neg lt le eq ne ofBits ofInt
+unfolding fitOf limitedFit fit sdsOf activeOf projectOf normOf admits twoEach ofGroup validControls validSds validMeans validSd validMean through descend objective rows litters.validPoint litters.validVariance litters.validMean litters.validLitters litters.validFrom litters.validLitter share coefficientOf integrand.aloneOf integrand.atOf integrand.integrandOf conditionalOf combinedOf normalOf normalCentre _>>=_ metered lgammaOf lgammaByProduct lgammaBelowOne productOf productFrom erfcOf erfcPos erfcTail erfcRow erfcRows logOf logParts logSmall logRow logRows expOf expLow expBelow expAbove expFinish expFar expRow expRows sqrtOf absOf isFinite maxOf minOf clampOf powiOf powiFrom leadingZeros toBits add sub mul div neg lt le eq ne ofBits ofInt
 example-a-is = (refl, refl, refl)

@@ -37,16 +37,16 @@ use Rattle.row.specs.Share.{rowOf}
 use Rattle.objective.specs.Litters.{validLitters, validPoint}
 use Rattle.objective.specs.Totals.{indexOf, accumulatedOf}
 use Rattle.objective.specs.Objective.{limitedOf, objectiveOf}
-use Rattle.descent.specs.Descent.{Trial}
 use Rattle.descent.specs.Status as status
 use Rattle.summary.specs.Summary.{extremeOf, noCounts, plusOf, litterCountsOf, countsOf, summaryOf}
 use Rattle.request.specs.declared.Request.{Request}
 use Rattle.request.specs.Request.{upTo, admits, startOf, lowOf, highOf}
 use Rattle.step.specs.Step.{projectOf, normOf, directionOf, candidateOf, slopeOf, stillOf}
-use Rattle.verdict.specs.declared.Plan.{Plan}
-use Rattle.verdict.specs.declared.Attempt.{Attempt}
-use Rattle.verdict.specs.Verdict.{nothingOf, totalsIn, normAt, judgedOf}
-use Rattle.turns.specs.Descend.{refusalOf, descentOf}
+use Rattle.trial.specs.Judged.{normAt, idleOf, judgedOf}
+use Rattle.trial.specs.Watch.{notedOf}
+use Rattle.stepper.specs.Machine.{beginOf, tellOf}
+use Rattle.course.specs.Course.{refusalOf, stoppedOf}
+use Rattle.drive.specs.Drive.{drivenOf}
 use Rattle.fit.specs.Fit.{fitOf}
 use Rattle.litters.specs.declared.Litter.{Litter}
 use Rattle.litters.specs.Litters.{numbersOf, noRows, withRows, roomOf}
@@ -136,15 +136,11 @@ of-request = (one2 _, one2 _, one1 _, one1 _, one1 _)
 pub of-step : One4 projectOf × One1 normOf × One2 _||_ × One5 directionOf × One5 candidateOf × One3 slopeOf × One2 stillOf
 of-step = (one4 _, one1 _, one2 _, one5 _, one5 _, one3 _, one2 _)
 
-pub of-verdict : One3 nothingOf × One1 totalsIn × One4 normAt × ((p : Plan) (x : List Float) → One6 (judgedOf p x))
-of-verdict = (one3 _, one1 _, one4 _, λ p x. one6 (judgedOf p x))
+pub of-stepper : One4 normAt × One2 beginOf × One3 tellOf
+of-stepper = (one4 _, one2 _, one3 _)
 
--- `search` answers so whatever trials were before
-pub of-search : (definition : List Trial → Attempt) (r s : Attempt) → ((ts : List Trial) → r ≡ definition ts) → ((ts : List Trial) → s ≡ definition ts) → r ≡ s
-of-search definition r s e f = one-answer (definition []) r s (e []) (f [])
-
-pub of-fit : One2 refusalOf × One6 descentOf × One2 fitOf
-of-fit = (one2 _, one6 _, one2 _)
+pub of-fit : One4 refusalOf × One2 stoppedOf × One6 drivenOf × One2 fitOf
+of-fit = (one4 _, one2 _, one6 _, one2 _)
 
 pub of-litters : One1 (λ (ls : List Litter). withRows ls 0 noRows) × One1 roomOf
 of-litters = (one1 _, one1 _)

@@ -1,0 +1,56 @@
+// The descent of the probit-normal objective: ask the stepper for a point, evaluate there, tell it the value.
+use course::Course;
+use legendre::Pair;
+use objective::Objective;
+use stepper::Plan;
+use value::Totals;
+use work::QuadratureEvaluations;
+ghost use mathlib.Core.Path.{_≡_};
+ghost use Rattle.drive.specs.Drive.{totalsIn, drivenOf};
+
+fn totals_of(o: Objective) -> Totals
+    ensures { λ r. ⌜ r ≡ totalsIn o ⌝ }
+{
+    let gradient = o.gradient;
+    let hessian = o.hessian;
+    Totals {
+        nll: o.nll,
+        gradient,
+        hessian,
+        refinement: o.refinement,
+    }
+}
+
+pub fn run(
+    litters: &[u32],
+    rule: [Pair; 16],
+    p: Plan,
+    limit: u64,
+    x: [f64; 4],
+    wanted: u64,
+) -> Course
+    ensures { λ r. ⌜ r ≡ drivenOf rule (now (litters .entry)) p limit wanted x ⌝ }
+{
+    let mut s = stepper::begin(x, wanted);
+    let mut used: u64 = 0;
+    loop {
+        if !stepper::awaits(s) {
+            return course::stopped(used, s);
+        }
+        let next = s.next;
+        let o = objective::limited_objective(
+            rule,
+            next,
+            litters,
+            QuadratureEvaluations(limit - used),
+        );
+        let spent = used + o.used.0;
+        let end = o.end;
+        if work::refused(end) {
+            return course::refusal(end, spent, s);
+        }
+        let t = stepper::tell(p, s, totals_of(o));
+        s = t;
+        used = spent;
+    }
+}
