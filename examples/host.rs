@@ -4,7 +4,13 @@ use std::fmt::Write;
 mod probit {
     pub const ANSWERED: u64 = 0;
     pub const WORK_BUDGET: u64 = 3;
-    pub const TEXT: usize = 300;
+    pub const TEXT: usize = 512;
+    pub const VERSION: u64 = 1000;
+    const ENDINGS: [&str; 5] = ["answered", "invalid input", "domain", "work budget", "form"];
+
+    pub fn ending(n: u64) -> &'static str {
+        ENDINGS.get(n as usize).unwrap_or(&"unknown")
+    }
 
     mod library {
         unsafe extern "C" {
@@ -12,6 +18,7 @@ mod probit {
                 bounds: *const f64, bounds_len: usize, tolerance: f64, evaluations: u64, iterations: u64, quadrature: u64,
                 litters: *const u32, litters_len: usize, numbers: *mut f64, numbers_len: usize, counts: *mut u64, counts_len: usize,
             ) -> u64;
+            pub safe fn probit_version() -> u64;
             pub fn probit_summary(litters: *const u32, litters_len: usize, counts: *mut u64, counts_len: usize) -> u64;
             pub fn probit_text(request: *const u8, request_len: usize, out: *mut u8, out_len: usize) -> usize;
         }
@@ -41,6 +48,10 @@ mod probit {
             )
         };
         Fit { end, numbers, counts }
+    }
+
+    pub fn version() -> u64 {
+        library::probit_version()
     }
 
     pub fn summary(litters: &[u32]) -> (u64, [u64; 8]) {
@@ -116,6 +127,9 @@ fn fail(message: &str) -> ! {
 }
 
 fn main() {
+    if probit::version() / 1000 != probit::VERSION / 1000 || probit::version() < probit::VERSION {
+        fail(&format!("the library has version {}, this host {}", probit::version(), probit::VERSION));
+    }
     let f = fit(LIMITS.quadrature);
     match std::env::args().nth(1).as_deref() {
         Some("request") => return print!("{}", request_text(LIMITS.quadrature)),
@@ -123,7 +137,7 @@ fn main() {
         _ => {}
     }
     if f.end != probit::ANSWERED {
-        fail(&format!("refused: ending {}, reason {}", f.end, f.counts[5]));
+        fail(&format!("refused: {}, reason {}", probit::ending(f.end), f.counts[5]));
     }
     let (_, s) = probit::summary(&LITTERS);
     let x = f.numbers;
@@ -137,9 +151,9 @@ fn main() {
     );
     let (exact, below) = (fit(n), fit(n - 1));
     println!(
-        "{n} evaluations of the integrand; with that limit {}; with one less ending {}, count {}",
+        "{n} evaluations of the integrand; with that limit {}; with one less {}, count {}",
         if exact == f { "the same answer" } else { "ANOTHER ANSWER" },
-        below.end,
+        probit::ending(below.end),
         below.counts[3]
     );
     if exact != f || below.end != probit::WORK_BUDGET || below.counts[3] != n - 1 {

@@ -1,4 +1,4 @@
-/* Every function with short buffers, zero lengths and null pointers of length 0, and with 128 and 129 litters.
+/* Every function with short buffers, zero lengths and null pointers of length 0, then on each side of every limit that the header names, and with what is too long.
  * Each slice ends where memory that may be touched ends, or begins where it begins: a read or a write out of it stops the program.
  * Every byte that is not to be written is painted before and looked at after. Under valgrind the slices are blocks of the heap. */
 #include <stdio.h>
@@ -137,11 +137,11 @@ static void one_text(size_t r, size_t o, int where) {
 static void most_litters(void) {
     double numbers[PROBIT_OBJECTIVE_NUMBERS];
     uint64_t counts[PROBIT_FIT_COUNTS], end;
-    uint32_t many[PROBIT_LITTER * 129];
-    for (size_t i = 0; i < 129; i++)
-        many[3 * i] = 1, many[3 * i + 1] = 2, many[3 * i + 2] = i % 2;
-    for (size_t n = 128; n <= 129; n++) {
-        uint64_t refused = n > 128;
+    uint32_t many[PROBIT_LITTER_NUMBERS * (PROBIT_MAX_LITTERS + 1)];
+    for (size_t i = 0; i <= PROBIT_MAX_LITTERS; i++)
+        many[3 * i + PROBIT_AFFECTED] = 1, many[3 * i + PROBIT_PUPS] = 2, many[3 * i + PROBIT_GROUP] = i % 2;
+    for (size_t n = PROBIT_MAX_LITTERS; n <= PROBIT_MAX_LITTERS + 1; n++) {
+        uint64_t refused = n > PROBIT_MAX_LITTERS;
         for (uint64_t limit = 127; limit <= 128; limit++) {
             end = probit_fit(bounds, PROBIT_BOUNDS, 1e-6, 10, 10, limit, many, 3 * n, numbers, PROBIT_FIT_NUMBERS, counts, PROBIT_FIT_COUNTS);
             expect(end == (refused ? PROBIT_INVALID_INPUT : limit < n ? PROBIT_WORK_BUDGET : PROBIT_ANSWERED) && counts[PROBIT_QUADRATURE] == (refused ? 0 : limit), "probit_fit", n, limit, 0, 0);
@@ -150,6 +150,90 @@ static void most_litters(void) {
         expect(end == refused && counts[0] == (refused ? 0 : n), "probit_objective", n, 0, 0, 0);
         end = probit_summary(many, 3 * n, counts, PROBIT_SUMMARY_COUNTS);
         expect(end == refused && counts[0] == (refused ? 0 : 64) && counts[6] == (refused ? 0 : 128), "probit_summary", n, 0, 0, 0);
+    }
+}
+
+/* What is too long is refused by its length: it lies where nothing may be touched. */
+static void too_long(void) {
+    static const size_t lengths[] = {PROBIT_LITTER_NUMBERS * (PROBIT_MAX_LITTERS + 1), 300000000};
+    size_t bytes = sizeof(uint32_t) * lengths[1];
+    void *none = mmap(NULL, bytes, PROT_NONE, MAP_PRIVATE | MAP_ANONYMOUS | MAP_NORESERVE, -1, 0);
+    double numbers[PROBIT_OBJECTIVE_NUMBERS];
+    uint64_t counts[PROBIT_FIT_COUNTS];
+    uint8_t out[PROBIT_TEXT];
+    if (none == MAP_FAILED)
+        perror("short: mmap"), exit(2);
+    for (int i = 0; i < 2; i++) {
+        size_t n = lengths[i];
+        expect(probit_fit(bounds, PROBIT_BOUNDS, 1e-6, 10, 10, 4, none, n, numbers, PROBIT_FIT_NUMBERS, counts, PROBIT_FIT_COUNTS) == PROBIT_INVALID_INPUT, "probit_fit", n, 0, 0, 0);
+        expect(probit_objective(point, PROBIT_POINT, none, n, numbers, PROBIT_OBJECTIVE_NUMBERS, counts, PROBIT_OBJECTIVE_COUNTS) == PROBIT_INVALID_INPUT, "probit_objective", n, 0, 0, 0);
+        expect(probit_summary(none, n, counts, PROBIT_SUMMARY_COUNTS) == PROBIT_INVALID_INPUT, "probit_summary", n, 0, 0, 0);
+    }
+    expect(probit_text(none, PROBIT_MAX_REQUEST + 1, out, sizeof out) == 14 && !memcmp(out, "refused 4 0 0\n", 14), "probit_text", bytes, 0, 0, 0);
+    munmap(none, bytes);
+}
+
+static double above(double x) {
+    uint64_t n;
+    memcpy(&n, &x, sizeof n), n++, memcpy(&x, &n, sizeof n);
+    return x;
+}
+
+/* The fit of the four litters with one number of its bounds, one limit or one litter changed; each fit is over after its first evaluation. */
+enum what { BOUND, EVALUATIONS, ITERATIONS, QUADRATURE, LITTER };
+static void one_limit(enum what what, size_t i, double x, int taken) {
+    double b[PROBIT_BOUNDS], numbers[PROBIT_FIT_NUMBERS];
+    uint64_t counts[PROBIT_FIT_COUNTS], limit[] = {10, 10, 10};
+    uint32_t l[WHOLE];
+    memcpy(b, bounds, sizeof b), memcpy(l, litters, sizeof l);
+    if (what == BOUND)
+        b[i] = x;
+    else if (what == LITTER)
+        l[i] = x;
+    else
+        limit[what - EVALUATIONS] = x;
+    expect(probit_fit(b, PROBIT_BOUNDS, 1e-6, limit[0], limit[1], limit[2], l, WHOLE, numbers, PROBIT_FIT_NUMBERS, counts, PROBIT_FIT_COUNTS) ==
+               (taken ? PROBIT_ANSWERED : PROBIT_INVALID_INPUT), "a limit of probit_fit", what, i, taken, 0);
+}
+
+static void one_point(size_t i, double x, int taken) {
+    double p[PROBIT_POINT], numbers[PROBIT_OBJECTIVE_NUMBERS];
+    uint64_t counts[PROBIT_OBJECTIVE_COUNTS];
+    memcpy(p, point, sizeof p);
+    p[i] = x;
+    expect(probit_objective(p, PROBIT_POINT, litters, WHOLE, numbers, PROBIT_OBJECTIVE_NUMBERS, counts, PROBIT_OBJECTIVE_COUNTS) ==
+               (taken ? PROBIT_ANSWERED : PROBIT_INVALID_INPUT), "a limit of probit_objective", i, taken, 0, 0);
+}
+
+static void limits(void) {
+    static const uint64_t most[] = {PROBIT_MAX_EVALUATIONS, PROBIT_MAX_ITERATIONS, PROBIT_MAX_QUADRATURE};
+    static uint8_t text[PROBIT_MAX_REQUEST + 1];
+    uint8_t out[PROBIT_TEXT];
+    for (int k = 0; k < 3; k++) {
+        one_limit(EVALUATIONS + k, 0, 0, 0), one_limit(EVALUATIONS + k, 0, k == 2 ? 4 : 1, 1);
+        one_limit(EVALUATIONS + k, 0, most[k], 1), one_limit(EVALUATIONS + k, 0, most[k] + 1, 0);
+    }
+    for (int g = 0; g < 2; g++) {
+        double low = -PROBIT_MAX_MEAN;
+        one_limit(BOUND, 3 * g, low, 1), one_limit(BOUND, 3 * g, -above(PROBIT_MAX_MEAN), 0);
+        one_limit(BOUND, 3 * g + 1, PROBIT_MAX_MEAN, 1), one_limit(BOUND, 3 * g + 1, above(PROBIT_MAX_MEAN), 0);
+        one_limit(BOUND, 6 + 3 * g, -above(0), 0), one_limit(BOUND, 7 + 3 * g, PROBIT_MAX_SD, 1), one_limit(BOUND, 7 + 3 * g, above(PROBIT_MAX_SD), 0);
+        one_point(g, PROBIT_MAX_MEAN, 1), one_point(g, low, 1), one_point(g, above(PROBIT_MAX_MEAN), 0), one_point(g, -above(PROBIT_MAX_MEAN), 0);
+        one_point(2 + g, PROBIT_MAX_VARIANCE, 1), one_point(2 + g, above(PROBIT_MAX_VARIANCE), 0), one_point(2 + g, -above(0), 0);
+    }
+    one_limit(LITTER, PROBIT_PUPS, 0, 0), one_limit(LITTER, PROBIT_PUPS, PROBIT_MAX_PUPS + 1, 0);
+    one_limit(LITTER, PROBIT_AFFECTED, 3, 0), one_limit(LITTER, PROBIT_GROUP, 2, 0);
+    one_limit(LITTER, PROBIT_GROUP, 1, 0); /* one litter of group 0 and three of group 1, where PROBIT_MIN_LITTERS_A_GROUP are asked */
+    expect(PROBIT_MIN_LITTERS_A_GROUP == 2 && probit_version() == PROBIT_VERSION, "a constant of the header", 0, 0, 0, 0);
+    memset(text, '\n', sizeof text);
+    expect(probit_text(text, PROBIT_MAX_REQUEST, out, sizeof out) == 14 && !memcmp(out, "refused 4 0 1\n", 14), "probit_text", PROBIT_MAX_REQUEST, 0, 0, 0);
+    expect(probit_text(text, PROBIT_MAX_REQUEST + 1, out, sizeof out) == 14 && !memcmp(out, "refused 4 0 0\n", 14), "probit_text", PROBIT_MAX_REQUEST + 1, 0, 0, 0);
+    {
+        uint32_t large[] = {PROBIT_MAX_PUPS, PROBIT_MAX_PUPS, 0};
+        uint64_t counts[PROBIT_SUMMARY_COUNTS];
+        expect(probit_summary(large, 3, counts, PROBIT_SUMMARY_COUNTS) == PROBIT_ANSWERED && counts[PROBIT_SUMMARY_PUPS] == PROBIT_MAX_PUPS, "probit_summary", 1, 0, 0, 0);
+        large[PROBIT_AFFECTED]++, large[PROBIT_PUPS]++;
+        expect(probit_summary(large, 3, counts, PROBIT_SUMMARY_COUNTS) == PROBIT_INVALID_INPUT, "probit_summary", 1, 0, 0, 0);
     }
 }
 
@@ -177,6 +261,8 @@ int main(int argc, char **argv) {
         one_fit(0, 0, 0, 0, where), one_objective(0, 0, 0, 0, where), one_summary(0, 0, where), one_text(0, 0, where);
     }
     most_litters();
+    limits();
+    too_long();
     printf("short: %ld calls, %ld wrong\n", calls, wrong);
     return wrong != 0;
 }

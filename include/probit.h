@@ -5,8 +5,10 @@
  * With length 0 nothing is read or written at all, and the pointer may be null.
  *
  * Every value of every argument is answered: no call fails, none keeps state, any number of threads may call at once.
- * The f64 arithmetic is the default one: round to nearest, subnormals kept. A host that switched the processor to flush them
- * (as -ffast-math does at the start of a program) may get other bits.
+ * The f64 arithmetic is the default one: round to nearest, subnormals kept, no exception trapped. docs/EMBEDDING.md says what a host has to keep.
+ *
+ * Order: version, limits, what answers are made of, then an entry at a time with its own lengths and places. Numbers are never given a second
+ * meaning: what is added later gets numbers and names of its own.
  */
 #ifndef PROBIT_H
 #define PROBIT_H
@@ -18,16 +20,45 @@
 extern "C" {
 #endif
 
-/* How a call ended: the value of probit_fit, probit_objective and probit_summary. */
+/* ---- The version of this interface: 1000 times the first number, and the second. The second rises when something is added, the first when something
+ * here changes or goes. A library fits a host if its first number is the header's and its version is no less:
+ *   probit_version() / 1000 == PROBIT_VERSION / 1000 && probit_version() >= PROBIT_VERSION */
+#define PROBIT_VERSION 1000
+
+uint64_t probit_version(void);
+
+/* ---- Limits. A request past one is PROBIT_INVALID_INPUT. MAX is the highest that is taken, MIN the lowest; a count without a MIN begins at 1. */
+#define PROBIT_MAX_LITTERS 128
+#define PROBIT_MIN_LITTERS_A_GROUP 2 /* of a fit; the objective and the summary take one litter */
+#define PROBIT_MAX_PUPS 1000         /* in one litter */
+#define PROBIT_MAX_EVALUATIONS 1000
+#define PROBIT_MAX_ITERATIONS 1000
+#define PROBIT_MAX_QUADRATURE 20000000
+#define PROBIT_MAX_MEAN 8.0 /* means lie within [-8, 8] */
+#define PROBIT_MAX_SD 3.0   /* SDs within [0, 3] */
+#define PROBIT_MAX_VARIANCE 9.0
+#define PROBIT_MAX_REQUEST 8192 /* bytes of a request's text; a longer one is Form */
+
+/* ---- Litters stand one after the other, PROBIT_LITTER_NUMBERS numbers each: the affected pups, all pups, the group, at the places below.
+ * A litter line of the text has the group first: group, affected, pups. Group 0 is the control, group 1 the treated.
+ * Pups are 1 to PROBIT_MAX_PUPS, affected at most pups. Anything else, a rest of one or two numbers too, is PROBIT_INVALID_INPUT. */
+#define PROBIT_LITTER_NUMBERS 3
+
+enum { PROBIT_AFFECTED, PROBIT_PUPS, PROBIT_GROUP };
+
+/* ---- How a call ended: the value of probit_fit, probit_objective and probit_summary, and the number after `refused` in an answer's text.
+ * probit_names.h has these, the reasons and the statuses in words, for a log. */
 enum {
     PROBIT_ANSWERED = 0,
     PROBIT_INVALID_INPUT = 1, /* a length, a bound, a limit or a litter is not as asked */
     PROBIT_DOMAIN = 2,        /* the numbers led nowhere; the reason is one of those below */
-    PROBIT_WORK_BUDGET = 3    /* the limit of quadrature evaluations was met before the answer */
+    PROBIT_WORK_BUDGET = 3,   /* the limit of quadrature evaluations was met before the answer */
+    PROBIT_FORM = 4           /* in text alone: the request has not the form, and a line's number stands for the reason */
 };
 
-/* The reason of PROBIT_DOMAIN; 0 with every other ending. */
+/* ---- The reason of PROBIT_DOMAIN; 0 with every other ending. */
 enum {
+    PROBIT_NO_REASON = 0,
     PROBIT_MODE_NOT_BRACKETED = 1,
     PROBIT_MODE_NOT_CONVERGED = 2,
     PROBIT_TAIL_NOT_BOUNDED = 3,
@@ -35,7 +66,7 @@ enum {
     PROBIT_REFINEMENT_NOT_CONVERGED = 5
 };
 
-/* How an answered fit stopped; a refusal has PROBIT_NO_STATUS. */
+/* ---- How an answered fit stopped; a refusal has PROBIT_NO_STATUS. */
 enum {
     PROBIT_NO_STATUS = 0,
     PROBIT_CONVERGED = 1, /* exactly if the reported norm is at most the tolerance */
@@ -44,18 +75,14 @@ enum {
     PROBIT_LINE_SEARCH_FAILED = 4
 };
 
-/* Litters stand one after the other, three numbers each: successes, total, group. There are 1 to 128; group is 0 or 1, total 1 to 1000,
- * successes at most total. Anything else, a rest of one or two numbers too, is PROBIT_INVALID_INPUT. */
-#define PROBIT_LITTER 3
-
-/* The fit.
+/* ---- The fit.
  *
  * bounds: PROBIT_BOUNDS numbers: low, high and start of the mean of group 0, of the mean of group 1, of the SD of group 0, of the SD of group 1.
- *   All are finite, low < high, low <= start <= high. Means lie within [-8, 8], SDs within [0, 3]; an SD's low and high still differ when squared.
+ *   All are finite, low < high, low <= start <= high; an SD's low and high still differ when squared.
  * tolerance: of the projected gradient's norm; finite and above 0.
- * evaluations, iterations: 1 to 1000, of the objective and of the descent. Meeting one ends the fit with a status, and the answer so far.
- * quadrature: 1 to 20000000. Meeting it is PROBIT_WORK_BUDGET.
- * litters: at least two of each group.
+ * evaluations, iterations: of the objective and of the descent. Meeting one ends the fit with a status, and the answer so far.
+ * quadrature: of evaluations of the integrand. Meeting it is PROBIT_WORK_BUDGET.
+ * litters: at least PROBIT_MIN_LITTERS_A_GROUP of each group.
  *
  * numbers (PROBIT_FIT_NUMBERS or more) and counts (PROBIT_FIT_COUNTS or more) get the answer at the places below; elements after them are left as
  * they were. A refusal puts zeros, but for its quadrature evaluations and its reason.
@@ -72,8 +99,8 @@ enum {
     PROBIT_STATUS,
     PROBIT_EVALUATIONS, /* of the objective */
     PROBIT_ITERATIONS,
-    PROBIT_QUADRATURE,  /* evaluations of the integrand */
-    PROBIT_LITTERS,
+    PROBIT_QUADRATURE, /* evaluations of the integrand */
+    PROBIT_LITTER_COUNT,
     PROBIT_REASON,
     PROBIT_MEAN_0_ON_BOUND,
     PROBIT_MEAN_1_ON_BOUND,
@@ -84,31 +111,44 @@ enum {
 uint64_t probit_fit(const double *bounds, size_t bounds_len, double tolerance, uint64_t evaluations, uint64_t iterations, uint64_t quadrature,
                     const uint32_t *litters, size_t litters_len, double *numbers, size_t numbers_len, uint64_t *counts, size_t counts_len);
 
-/* The objective at one point: the negative log-likelihood with its derivatives.
+/* ---- The objective at one point: the negative log-likelihood with its derivatives.
  *
- * point: PROBIT_POINT numbers: mean 0, mean 1 in [-8, 8], variance 0, variance 1 in [0, 9].
+ * point: PROBIT_POINT numbers: mean 0, mean 1, variance 0, variance 1.
  * litters: one is enough.
  *
  * numbers (PROBIT_OBJECTIVE_NUMBERS or more): the value, the gradient (4), the Hessian by rows (16), the largest refinement.
  * counts (PROBIT_OBJECTIVE_COUNTS or more): the evaluations of the integrand, the reason.
- * Refusals and lengths as above. The limit is 8388608 evaluations, which no valid request reaches. */
+ * Refusals and lengths as above. The limit is PROBIT_OBJECTIVE_QUADRATURE evaluations, which no valid request reaches. */
 #define PROBIT_POINT 4
 #define PROBIT_OBJECTIVE_NUMBERS 22
 #define PROBIT_OBJECTIVE_COUNTS 2
+#define PROBIT_OBJECTIVE_QUADRATURE 8388608
+
+/* places in numbers, the first of each, and in counts */
+enum { PROBIT_OBJECTIVE_NLL = 0, PROBIT_OBJECTIVE_GRADIENT = 1, PROBIT_OBJECTIVE_HESSIAN = 5, PROBIT_OBJECTIVE_REFINEMENT = 21 };
+enum { PROBIT_OBJECTIVE_EVALUATED = 0, PROBIT_OBJECTIVE_REASON = 1 };
 
 uint64_t probit_objective(const double *point, size_t point_len, const uint32_t *litters, size_t litters_len, double *numbers, size_t numbers_len,
                           uint64_t *counts, size_t counts_len);
 
-/* The group summary. counts (PROBIT_SUMMARY_COUNTS or more): of group 0 the litters, successes, trials, and litters with no successes; the same of group 1.
+/* ---- The group summary.
+ *
+ * counts (PROBIT_SUMMARY_COUNTS or more): of group 0 the litters, affected pups, all pups, and extreme litters, those with none affected, at the places below;
+ *   the same of group 1, PROBIT_SUMMARY_GROUP places on.
  * Litters that are not valid give PROBIT_INVALID_INPUT and zeros; a buffer that is too short PROBIT_INVALID_INPUT, and nothing is written. */
 #define PROBIT_SUMMARY_COUNTS 8
+#define PROBIT_SUMMARY_GROUP 4
+
+enum { PROBIT_SUMMARY_LITTERS, PROBIT_SUMMARY_AFFECTED, PROBIT_SUMMARY_PUPS, PROBIT_SUMMARY_EXTREME };
 
 uint64_t probit_summary(const uint32_t *litters, size_t litters_len, uint64_t *counts, size_t counts_len);
 
-/* The text entry: the bytes that the program probitfit reads, and those that it prints.
+/* ---- The text entry: the bytes that the program probitfit reads, and those that it prints (docs/FORMAT.md).
+ *
  * The value is the length of the answer, which stands at the start of out, with no zero after it; the rest of out is left as it was.
- * Where out_len is below PROBIT_TEXT, the room for the longest answer, the value is 0 and nothing is written. */
-#define PROBIT_TEXT 300
+ * Where out_len is below PROBIT_TEXT, the value is 0 and nothing is written. No answer of today has more than 300 bytes; the rest is room for
+ * lines to come. */
+#define PROBIT_TEXT 512
 
 size_t probit_text(const uint8_t *request, size_t request_len, uint8_t *out, size_t out_len);
 

@@ -109,6 +109,13 @@ static void erfc_last(long i, long n) {
     A = step(at[k % 5], k / 5 - 200);
 }
 
+// where the largest errors were found, and their neighbours
+static void erfc_hard(long i, long n) {
+    static const double at[] = {18.447978493698344, 24.2250870249051, 26.543323769826969, 26.545993957461985};
+    long k = listed(i, n, 4L * 101);
+    A = step(at[k % 4], k / 4 - 50);
+}
+
 static void pair_within(int d) {
     A = whatever();
     int e;
@@ -206,8 +213,8 @@ static const struct range ranges[] = {
     {&ERFC, "0 to 5.72", erfc_rows, 20000, 5000000, N},
     {&ERFC, "-6 to 0", erfc_minus, 10000, 2000000, N},
     {&ERFC, "-30 to -5.7", erfc_two, 2000, 200000, N},
-    {&ERFC, "5.6 to 26.6", erfc_tail, 2000, 300000, N},
-    {&ERFC, "26.5 to 28", erfc_low, 600, 50000, N | L},
+    {&ERFC, "5.6 to 26.6", erfc_tail, 2000, 3000000, N},
+    {&ERFC, "26.5 to 28", erfc_low, 600, 500000, N | L},
     {&ERFC, "next to row ends, both signs", erfc_ends, 8000, 92L * 2 * 501, N},
     {&ERFC, "next to 5.71 to 6, -5.71 to -6, 0", erfc_borders, 3000, 16L * 401, N},
     {&ERFC, "next to 26.5, 26.54, 27, 27.23, 28", erfc_last, 400, 5L * 401, N | L},
@@ -226,6 +233,9 @@ static const struct range ranges[] = {
 
     {&LGAMMA, "whole 1 to 1001", lgamma_whole, 1001, 1001, N},
     {&COS, "pi (k - 1/4)/16.5, k = 1 to 16", cos_points, 16, 16, N},
+
+    // last, since a range's points are drawn by its place here
+    {&ERFC, "next to the largest found", erfc_hard, 404, 404, N | L},
 };
 
 // The error in units of the last place of the exact result in Y; below the normal range in units of 2^-1074.

@@ -10,7 +10,7 @@ uint64_t oracle_limit(const uint8_t *text, size_t length);
 size_t oracle_answer(const uint8_t *text, size_t length, uint8_t *out);
 
 // A longer fit would only take time from the reader; above 20,000,000 a request is refused without work.
-enum { LONG = 2000, REFUSED = 20000000, LEAST = 300, GUARD = 64 };
+enum { LONG = 2000, REFUSED = 20000000, LEAST = 512, GUARD = 64 };
 
 static void wrong(const char *what, const uint8_t *said, size_t n, const uint8_t *kept, size_t m) {
     fprintf(stderr, "fuzz: %s\nours\n%.*s\nthe oracle\n%.*s\n", what, (int)n, (const char *)said, (int)m, (const char *)kept);
@@ -25,10 +25,10 @@ int LLVMFuzzerTestOneInput(const uint8_t *text, size_t length) {
         return 0;
     memset(out, 0xa5, sizeof out);
     if (probit_text(text, length, out, LEAST - 1) != 0)
-        wrong("a buffer of 299 bytes is taken", out, LEAST, kept, 0);
+        wrong("a buffer of 511 bytes is taken", out, LEAST, kept, 0);
     for (size_t i = 0; i < sizeof out; i++)
         if (out[i] != 0xa5)
-            wrong("a buffer of 299 bytes is written to", out, LEAST, kept, 0);
+            wrong("a buffer of 511 bytes is written to", out, LEAST, kept, 0);
     size_t n = probit_text(text, length, out, LEAST);
     if (n > LEAST)
         wrong("more is said to be written than there is room for", out, LEAST, kept, 0);

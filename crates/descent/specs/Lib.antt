@@ -1,3 +1,4 @@
 pub mod Status
 pub mod Descent
 pub mod Stopping
+pub mod Refusals

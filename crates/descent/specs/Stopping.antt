@@ -26,10 +26,6 @@ statusOf norm tolerance most turns e k =
     (cond (leb turns k) IterationLimit LineSearchFailed))
 
 module _ {X O D : Type 0} (p : Problem X O D) where
-  -- whether the norm at the point reported is at most the tolerance
-  abbrev pub near : Descended X O → Bool
-  near r = le (p .norm (r .x) (r .v)) (p .tolerance)
-
   pub record Stopped (r : Descended X O) : Type 0 where
     pub status : r .status ≡ statusOf (p .norm (r .x) (r .v)) (p .tolerance) (p .most) (p .turns) (r .evaluations) (r .iterations)
     pub within-evaluations : r .evaluations ≤ p .most
@@ -124,34 +120,34 @@ by-tests s false true c e = record { converged = (λ h. cc, λ h. cc); evaluatio
 by-tests s false false true e = record { converged = (λ h. cc, λ h. cc); evaluation-limit = (λ h. (cc, cc), λ h. cc); iteration-limit = (λ h. (cc, cc, cc), λ h. cc); line-search-failed = (λ h. (cc, cc, cc), λ h. cc) }
 by-tests s false false false e = record { converged = (λ h. cc, λ h. cc); evaluation-limit = (λ h. (cc, cc), λ h. cc); iteration-limit = (λ h. (cc, cc, cc), λ h. cc); line-search-failed = (λ h. (cc, cc, cc), λ h. cc) }
 
--- ---- each status, exactly; a norm that is NaN is not at most the tolerance
-module _ {X O D : Type 0} {p : Problem X O D} {r : Descended X O} (s : Stopped p r) where
-  tests : ByTests (r .status) (near p r) (leb (p .most) (r .evaluations)) (leb (p .turns) (r .iterations))
-  unfolding statusOf
-  tests = by-tests (r .status) (near p r) (leb (p .most) (r .evaluations)) (leb (p .turns) (r .iterations)) (s .status)
+-- The rule, said of a status, a norm and two counts: each status exactly, and both counts within their limits. A norm that is NaN is not at most the tolerance.
+pub record ByRule (status : Status) (norm tolerance : Float) (evaluations most iterations turns : ℕ) : Type 0 where
+  -- exactly if the norm is at most the tolerance
+  pub converged : (status ≡ Converged) ↔ (le norm tolerance ≡ true)
+  -- exactly if it is not, and every evaluation is used
+  pub evaluation-limit : (status ≡ EvaluationLimit) ↔ ((le norm tolerance ≡ false) × (evaluations ≡ most))
+  -- exactly if it is not, evaluations are left, and every step is used
+  pub iteration-limit : (status ≡ IterationLimit) ↔ ((le norm tolerance ≡ false) × (evaluations < most) × (iterations ≡ turns))
+  -- exactly if it is not, and evaluations and steps are left
+  pub line-search-failed : (status ≡ LineSearchFailed) ↔ ((le norm tolerance ≡ false) × (evaluations < most) × (iterations < turns))
+  pub within-evaluations : evaluations ≤ most
+  pub within-iterations : iterations ≤ turns
 
-  -- Converged: exactly if the reported norm is at most the tolerance
-  pub converged-exactly : (r .status ≡ Converged) ↔ (near p r ≡ true)
-  converged-exactly = tests .converged
-
-  -- EvaluationLimit: exactly if the reported norm is not at most the tolerance and every evaluation is used
-  pub evaluation-limit-exactly : (r .status ≡ EvaluationLimit) ↔ ((near p r ≡ false) × (r .evaluations ≡ p .most))
-  evaluation-limit-exactly =
-      let t = tests .evaluation-limit in
-      (λ h. (t .0 h .0, omega (arith, leb-true (p .most) (r .evaluations) (t .0 h .1))), λ h. t .1 (h .0, le-leb (p .most) (r .evaluations) (omega arith)))
-
-  -- IterationLimit: exactly if the reported norm is not at most the tolerance, evaluations are left, and every step is used
-  pub iteration-limit-exactly : (r .status ≡ IterationLimit) ↔ ((near p r ≡ false) × (r .evaluations < p .most) × (r .iterations ≡ p .turns))
-  iteration-limit-exactly =
-      let t = tests .iteration-limit in (
-        λ h. (t .0 h .0, leb-false (p .most) (r .evaluations) (t .0 h .1), omega (arith, leb-true (p .turns) (r .iterations) (t .0 h .2))),
-        λ h. t .1 (h .0, lt-leb (p .most) (r .evaluations) (h .1), le-leb (p .turns) (r .iterations) (omega arith)),
-      )
-
-  -- LineSearchFailed: exactly if the reported norm is not at most the tolerance, and evaluations and steps are left
-  pub line-search-failed-exactly : (r .status ≡ LineSearchFailed) ↔ ((near p r ≡ false) × (r .evaluations < p .most) × (r .iterations < p .turns))
-  line-search-failed-exactly =
-      let t = tests .line-search-failed in (
-        λ h. (t .0 h .0, leb-false (p .most) (r .evaluations) (t .0 h .1), leb-false (p .turns) (r .iterations) (t .0 h .2)),
-        λ h. t .1 (h .0, lt-leb (p .most) (r .evaluations) (h .1), lt-leb (p .turns) (r .iterations) (h .2)),
-      )
+pub by-rule : (status : Status) (norm tolerance : Float) (e most k turns : ℕ) → status ≡ statusOf norm tolerance most turns e k → e ≤ most → k ≤ turns → ByRule status norm tolerance e most k turns
+unfolding statusOf
+by-rule status norm tolerance e most k turns s h l =
+    let t = by-tests status (le norm tolerance) (leb most e) (leb turns k) s in
+    record {
+      converged = t .converged;
+      evaluation-limit = (λ i. (t .evaluation-limit .0 i .0, omega (arith, leb-true most e (t .evaluation-limit .0 i .1))), λ i. t .evaluation-limit .1 (i .0, le-leb most e (omega arith)));
+      iteration-limit = (
+        λ i. (t .iteration-limit .0 i .0, leb-false most e (t .iteration-limit .0 i .1), omega (arith, leb-true turns k (t .iteration-limit .0 i .2))),
+        λ i. t .iteration-limit .1 (i .0, lt-leb most e (i .1), le-leb turns k (omega arith)),
+      );
+      line-search-failed = (
+        λ i. (t .line-search-failed .0 i .0, leb-false most e (t .line-search-failed .0 i .1), leb-false turns k (t .line-search-failed .0 i .2)),
+        λ i. t .line-search-failed .1 (i .0, lt-leb most e (i .1), lt-leb turns k (i .2)),
+      );
+      within-evaluations = h;
+      within-iterations = l;
+    }

@@ -29,7 +29,7 @@ pub fn run(
     x: [f64; 4],
     wanted: u64,
 ) -> Course
-    ensures { λ r. ⌜ r ≡ drivenOf rule (now (litters .entry)) p limit wanted x ⌝ }
+    ensures { λ r. ⌜ (r ≡ drivenOf rule (now (litters .entry)) p limit wanted x) × (now (litters .exit) ≡ now (litters .entry)) ⌝ }
 {
     let mut s = stepper::begin(x, wanted);
     let mut used: u64 = 0;

@@ -1,32 +1,50 @@
--- How a fit stops: crates/descent's rule at this objective. For every answered fit the status is the one that the reported norm and counts decide.
-use mathlib.Core.Path.{_≡_}
+-- How a fit stops: crates/descent's rule, of the record that the code returns.
+use mathlib.Core.Path.{_≡_, ap}
+use mathlib.Core.Bool.{Bool, true, _&&_}
 use mathlib.Core.List.{List}
 use Prim.Native.Nat.{ℕ, _≤_}
-use Rattle.work.specs.Ended.{done}
-use Rattle.work.specs.Work.{runL}
-use Rattle.work.specs.Given.{Always, holds, refuses, tested, passed, of-runL}
+use native.Mathlib.Omega.{arith}
+use borrow.Author.Tests.{leb-true}
+use lib.Dec.{leb}
+use lib.Ieee.{lt}
+use Rattle.num.specs.F64.{zero·}
+use Rattle.num.specs.Helpers.{isFinite}
+use Rattle.work.specs.declared.Ending.the-variants.{Answered}
+use Rattle.work.specs.Metered.{split}
+use Rattle.work.specs.Given.{Always, holds, refuses, tested, passed}
 use Rattle.legendre.specs.Legendre.{legendreOf}
-use Rattle.posterior.specs.Integrand.{at}
-use Rattle.descent.specs.Stopping.{statusOf, stops}
+use Rattle.descent.specs.Stopping.{ByRule, by-rule, stops}
+use Rattle.objective.specs.Litters.{validLitters}
 use Rattle.request.specs.declared.Request.{Request}
-use Rattle.request.specs.Request.{admits, startOf}
+use Rattle.request.specs.Request.{admits, validBoxes, validControls, upTo, twoEach, startOf}
 use Rattle.stepper.specs.Machine.{problemOf}
 use Rattle.drive.specs.Drive.{valueAt}
-use Rattle.fit.specs.Fit.{Report, planOf, fit}
+use Rattle.fit.specs.Fit.{Report, planOf, fit, fitOf}
+use Rattle.fit.specs.Answers.{answered}
 
-pub record StoppedFit (r : Request) (p : Report) : Type 0 where
-  pub status : p .status ≡ statusOf (p .norm) (r .tolerance) (r .evaluations .0) (r .iterations .0) (p .evaluations) (p .iterations)
-  pub within-evaluations : p .evaluations ≤ r .evaluations .0
-  pub within-iterations : p .iterations ≤ r .iterations .0
+least : (n : ℕ) (boxes most rest litters : Bool) → (boxes && (((leb 1 n && most) && rest) && litters)) ≡ true → 1 ≤ n
+least n boxes most rest litters h =
+    split (leb 1 n) (λ b. leb-true 1 n b)
+    (λ b. split boxes (λ a. let e = rw (a, b) at h in let z : _≡_ {A = ℕ} 0 1 = cc in absurd (omega arith)) (λ a. let e = rw a at h in let z : _≡_ {A = ℕ} 0 1 = cc in absurd (omega arith)))
+
+-- an admitted request may evaluate its start
+some : (r : Request) (ls : List ℕ) → admits r ls ≡ true → 1 ≤ r .evaluations .0
+unfolding admits validControls
+some r ls t = least (r .evaluations .0) (validBoxes r) (leb (r .evaluations .0) 1000) (upTo 1000 (r .iterations .0) && (isFinite (r .tolerance) && lt zero· (r .tolerance))) (validLitters ls && twoEach ls) t
+
+abbrev pub Stopped : Request → Report → Type 0
+Stopped r p = ByRule (p .status) (p .norm) (r .tolerance) (p .evaluations) (r .evaluations .0) (p .iterations) (r .iterations .0)
 
 module _ (r : Request) (ls : List ℕ) where
-  pub fit-stops : 1 ≤ r .evaluations .0 → Always (StoppedFit r) (fit legendreOf r ls)
+  pub fit-stops : Always (Stopped r) (fit legendreOf r ls)
   unfolding fit
-  fit-stops h =
+  fit-stops =
       tested (admits r ls)
-      (λ t. passed (stops (problemOf (planOf r)) (λ q. valueAt legendreOf ls (q .at)) h (startOf r)) (λ d s. holds (record { status = s .status; within-evaluations = s .within-evaluations; within-iterations = s .within-iterations })))
+      (λ t. passed (stops (problemOf (planOf r)) (λ q. valueAt legendreOf ls (q .at)) (some r ls t) (startOf r)) (λ d s. holds (by-rule _ _ _ _ _ _ _ (s .status) (s .within-evaluations) (s .within-iterations))))
       (λ t. refuses)
 
-  -- so of every run that is answered, with a limit or without
-  pub answered-stops : (l : ℕ) (p : Report) → 1 ≤ r .evaluations .0 → runL at l (fit legendreOf r ls) ≡ done p → StoppedFit r p
-  answered-stops l p h e = of-runL at (λ q. tt) l p (fit-stops h) e
+  -- Every answered fit: Converged exactly if its norm is at most the tolerance, and so on; both counts within their limits.
+  pub answered-stops : fitOf r ls .end ≡ Answered → ByRule (fitOf r ls .status) (fitOf r ls .norm) (r .tolerance) (fitOf r ls .evaluations .0) (r .evaluations .0) (fitOf r ls .iterations .0) (r .iterations .0)
+  answered-stops h =
+      let a = answered r ls (λ e. tt) fit-stops h in
+      rw (ap (λ f. f .status) (a .is), ap (λ f. f .norm) (a .is), ap (λ f. f .evaluations .0) (a .is), ap (λ f. f .iterations .0) (a .is)) (a .has)

@@ -1,20 +1,21 @@
 -- A turn of the reading by a form: the byte of the form, what it found, and the values so far.
-use mathlib.Core.Path.{_≡_, refl, sym, subst, _∙_}
+use mathlib.Core.Path.{_≡_, refl, sym, ap, subst, _∙_}
 use mathlib.Core.Bool.{Bool, true, false, cond}
 use mathlib.Core.List.{List, [], _∷_, _++_, append-nil}
-use Prim.Native.Nat.{ℕ, _+_, _≤_, _<_}
+use Prim.Native.Nat.{ℕ, _+_, _-_, _≤_, _<_}
 use native.Mathlib.Omega.{arith}
 use native.Mathlib.Nat.{add-zero, add-assoc}
 use native.Mathlib.Numerals.{add-one}
 use lib.Dec.{eqb, ltb}
-use lib.ListN.{length, getD, set, take, drop, length-set}
-use lib.Seq.{take-suc-set}
+use lib.ListN.{length, getD, set, take, drop, replicate, length-set, length-drop, take-append-drop}
+use lib.Seq.{take-suc-set, drop-set-lt, drop-drop, length-take-le}
 use borrow.Author.Tests.{lt-ltb}
+use Rattle.num.specs.Left.{left-one}
 use Rattle.form.specs.declared.token.Token.{Token}
 use Rattle.form.specs.declared.token.Token.the-variants.{Value, Departs}
 use Rattle.form.specs.Form.{isHole, holes}
-use Rattle.form.specs.Read.{Field, found, departs, readField, Reading, done, departsAt, kept, valueOf, lineAfter, read}
-use Rattle.form.specs.Says.{Says}
+use Rattle.form.specs.Read.{Field, found, departs, readField, Reading, done, departsAt, kept, valueOf, lineAfter, feeds, read}
+use Rattle.form.specs.Says.{Says, inPlaces, valuesOf}
 use Rattle.form.specs.Departure.{kept-kept}
 use Rattle.form.proofs.TokenLaws.{inside, past}
 
@@ -56,7 +57,25 @@ values-length values n v true l = by (ltb n 16) where
   by true = length-set values n v ∙ l
   by false = l
 
+-- the places after the values so far hold zeros
+pub places-turn : (values : List ℕ) (n v : ℕ) (hole : Bool) → (hole ≡ true → n < 16) → drop n values ≡ replicate (16 - n) 0 →
+    drop (n + cond hole 1 0) (cond hole (cond (ltb n 16) (set values n v) values) values) ≡ replicate (16 - (n + cond hole 1 0)) 0
+places-turn values n v true h e =
+    rw (lt-ltb n 16 (h refl))
+    (drop-set-lt (n + 1) values n v (omega arith) ∙ sym (drop-drop 1 n values) ∙ ap (drop 1) (e ∙ ap (λ m. replicate m 0) (left-one 16 n (h refl))))
+places-turn values n v false h e = rw (add-zero n) e
+
+pub places-filled : (values : List ℕ) (n : ℕ) → n ≤ 16 → length values ≡ 16 → drop n values ≡ replicate (16 - n) 0 → values ≡ inPlaces (take n values)
+places-filled values n h l e = rw (length-take-le n values (omega arith), ← e) (sym (take-append-drop n values))
+
 module _ (form : List ℕ) (k : ℕ) (h : k < length form) where
+  pub feeds-turn : (line : ℕ) → lineAfter (getD form k 0) line + feeds (drop (k + 1) form) ≡ line + feeds (drop k form)
+  unfolding feeds
+  feeds-turn line = rw (inside form k h) (by (eqb (getD form k 0) 10)) where
+    by : (t : Bool) → cond t (line + 1) line + feeds (drop (k + 1) form) ≡ line + (cond t 1 0 + feeds (drop (k + 1) form))
+    by true = omega arith
+    by false = omega arith
+
   pub holes-turn : holes (drop k form) ≡ cond (isHole (getD form k 0)) 1 0 + holes (drop (k + 1) form)
   unfolding holes
   holes-turn = rw (inside form k h)
@@ -64,6 +83,10 @@ module _ (form : List ℕ) (k : ℕ) (h : k < length form) where
   -- a value that is still to come has a place
   pub hole-room : (n : ℕ) (hole : Bool) → hole ≡ isHole (getD form k 0) → n + holes (drop k form) ≡ holes form → holes form ≤ 16 → hole ≡ true → n < 16
   hole-room n hole e i b t = let one : holes (drop k form) ≡ 1 + holes (drop (k + 1) form) = rw (← e, t) at holes-turn in omega arith
+
+pub no-feeds-left : (form : List ℕ) (k line m : ℕ) → length form ≤ k → line + feeds (drop k form) ≡ m → line ≡ m
+unfolding feeds
+no-feeds-left form k line m h e = sym (add-zero line) ∙ (rw (past form k h) at e)
 
 pub none-left : (form : List ℕ) (k n : ℕ) → length form ≤ k → n + holes (drop k form) ≡ holes form → n ≡ holes form
 unfolding holes
@@ -86,7 +109,8 @@ pub record Start : Type 0 where
 abbrev pub Left : Start → ℕ → ℕ → ℕ → List ℕ → ℕ → Type 0
 Left s at line n values k =
     (kept (take n values) (read (drop k (s .form)) line (drop at (s .text))) ≡ read (s .form) (s .first) (drop (s .start) (s .text))) × (at ≤ length (s .text)) ×
-    (n + holes (drop k (s .form)) ≡ holes (s .form)) × (line ≤ s .first + k) × (length values ≡ 16)
+    (n + holes (drop k (s .form)) ≡ holes (s .form)) × (line ≤ s .first + k) × (length values ≡ 16) ×
+    (line + feeds (drop k (s .form)) ≡ s .first + feeds (s .form)) × (drop n values ≡ replicate (16 - n) 0)
 
 module _ (s : Start) (at line n : ℕ) (values : List ℕ) (k v next : ℕ) (i : Left s at line n values k) (h : k < length (s .form)) where
   pub left-again : (hole : Bool) (values' : List ℕ) (n' line' : ℕ) → holes (s .form) ≤ 16 →
@@ -96,5 +120,25 @@ module _ (s : Start) (at line n : ℕ) (values : List ℕ) (k v next : ℕ) (i :
   left-again hole values' n' line' b f e ev en el =
       let room = hole-room (s .form) k h n hole e (i .2) b in
       let turn = read-turns (s .form) (s .text) (take n values) k line at _ (i .0) v next h (f .0) in
-      let more = holes-turn (s .form) k h in
-      (rw (ev, en, el, ← values-turn values n v hole (i .4) room, e) turn, f .1, rw (en, e, add-assoc, ← more) (i .2), rw el (omega (arith, line-room (getD (s .form) k 0) line (s .first + k) (i .3))), rw ev (values-length values n v hole (i .4)))
+      let more = holes-turn (s .form) k h in (
+        rw (ev, en, el, ← values-turn values n v hole (i .4) room, e) turn,
+        f .1,
+        rw (en, e, add-assoc, ← more) (i .2),
+        rw el (omega (arith, line-room (getD (s .form) k 0) line (s .first + k) (i .3))),
+        rw ev (values-length values n v hole (i .4)),
+        rw el (feeds-turn (s .form) k h line ∙ i .5),
+        rw (en, ev) (places-turn values n v hole room (i .6)),
+      )
+
+-- ---- what is answered
+
+pub answer-departs : (text : List ℕ) (line after : ℕ) (w : Reading) → w ≡ departsAt line → record { fits = false; at = 0; line = line; values = replicate 16 0 } ≡ valuesOf text after w
+unfolding valuesOf
+answer-departs text line after w e = rw e
+
+pub answer-done : (text values : List ℕ) (at line after n : ℕ) (w : Reading) → w ≡ done (take n values) (drop at text) → at ≤ length text → line ≡ after → values ≡ inPlaces (take n values) →
+    record { fits = true; at = at; line = line; values = values } ≡ valuesOf text after w
+unfolding valuesOf
+answer-done text values at line after n w e h l v =
+    let p : length text - (length text - at) ≡ at = omega arith in
+    rw (e, length-drop at text, p, ← v, l)

@@ -77,7 +77,7 @@ first-same : (f : List ℕ) → first (firstLine f) ≡ first f
 first-same [] = refl
 first-same (c ∷ f) = refl
 
-lines-sound : (f : List ℕ) → T (sound f) → T (sound (firstLine f)) × T (sound (otherLines f))
+pub lines-sound : (f : List ℕ) → T (sound f) → T (sound (firstLine f)) × T (sound (otherLines f))
 unfolding sound
 lines-sound [] h = (tt, tt)
 lines-sound (c ∷ f) h =

@@ -5,5 +5,7 @@ pub mod Says
 pub mod DigitLaws
 pub mod Sound
 pub mod BothWays
+pub mod Said
 pub mod Departure
+pub mod Feeds
 pub mod Examples

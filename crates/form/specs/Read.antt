@@ -59,6 +59,11 @@ valueOf c v = cond (isHole c) (v ∷ []) []
 abbrev pub lineAfter : ℕ → ℕ → ℕ
 lineAfter c line = cond (eqb c 10) (line + 1) line
 
+-- how many LFs a text has
+unfoldable pub feeds : List ℕ → ℕ
+feeds [] = 0
+feeds (c ∷ s) = cond (eqb c 10) 1 0 + feeds s
+
 abbrev pub readNext : ℕ → ℕ → Field → (List ℕ → Reading) → Reading
 readNext c line departs go = departsAt line
 readNext c line (found v t) go = kept (valueOf c v) (go t)

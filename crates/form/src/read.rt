@@ -6,9 +6,9 @@ ghost use Prim.Native.Nat.{_+_, _^_, _≤_, _<_};
 ghost use lib.Dec.{ltb};
 ghost use lib.ListN.{length, set, drop};
 ghost use Rattle.form.specs.Form.{isHole, holes};
-ghost use Rattle.form.specs.Read.{lineAfter};
+ghost use Rattle.form.specs.Read.{lineAfter, feeds};
 ghost use Rattle.form.specs.Read.{read as Read·read};
-ghost use Rattle.form.specs.Says.{saidOf};
+ghost use Rattle.form.specs.Says.{valuesOf};
 
 pub struct Values {
     pub fits: bool,
@@ -54,7 +54,7 @@ fn line_after(c: u8, line: u64) -> u64
 // `first` is the number of the line at `start`.
 pub fn read(text: &[u8], start: usize, form: &[u8], first: u64) -> Values
     requires { ⌜ (start ≤ length (now text)) × (holes (now form) ≤ 16) × (first + length (now form) < 2 ^ 63) ⌝ }
-    ensures { λ r. ⌜ (Read·read (now (form .entry)) first (drop start (now (text .entry))) ≡ saidOf (now (text .entry)) (holes (now (form .entry))) r) × (r .at ≤ length (now (text .entry))) × (length (r .values) ≡ 16) ⌝ }
+    ensures { λ r. ⌜ r ≡ valuesOf (now (text .entry)) (first + feeds (now (form .entry))) (Read·read (now (form .entry)) first (drop start (now (text .entry)))) ⌝ }
 {
     let mut at = start;
     let mut line = first;
@@ -68,7 +68,7 @@ pub fn read(text: &[u8], start: usize, form: &[u8], first: u64) -> Values
                 fits: false,
                 at: 0,
                 line,
-                values,
+                values: [0; 16],
             };
         };
         let hole = is_hole(c);

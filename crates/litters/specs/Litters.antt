@@ -1,7 +1,7 @@
 -- A list of litters as the numbers that the core takes, three a litter, and the table that the code keeps them in.
 use mathlib.Core.Bool.{cond}
 use mathlib.Core.List.{List, [], _∷_}
-use Prim.Native.Nat.{ℕ, _+_, _*_}
+use Prim.Native.Nat.{ℕ, _+_, _*_, _/_}
 use lib.Dec.{leb}
 use lib.ListN.{set, take, replicate}
 use Rattle.litters.specs.declared.Litter.{Litter}
@@ -37,6 +37,10 @@ withRows (l ∷ ls) i t = withRows ls (i + 1) (withRow t i l)
 -- how many numbers are handed on for n litters
 abbrev pub roomOf : ℕ → ℕ
 roomOf n = cond (leb n 128) (3 * n) 0
+
+-- the same of n numbers that are lent as such
+abbrev pub handedOn : ℕ → ℕ
+handedOn n = cond (leb (n / 3) 128) n 0
 
 abbrev pub keptOf : List ℕ → ℕ → List ℕ
 keptOf ns n = take (roomOf n) ns

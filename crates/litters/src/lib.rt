@@ -2,7 +2,7 @@
 // The borrow checker does not cover a slice of structs, so `to_table` is proved by a walk, by hand.
 ghost use mathlib.Core.Path.{_≡_};
 ghost use Prim.Native.Nat.{_≤_};
-ghost use Rattle.litters.specs.Litters.{noRows, withRow, withRows, roomOf};
+ghost use Rattle.litters.specs.Litters.{noRows, withRow, withRows, roomOf, handedOn};
 
 pub struct Litter {
     pub successes: u32,
@@ -45,6 +45,16 @@ pub fn to_table(litters: &[Litter]) -> Table
         i += 1;
     }
     t
+}
+
+// How many of n lent numbers, three a litter, go to the core. More than 128 litters are refused as none are, so none go.
+pub fn handed_on(n: usize) -> usize
+    ensures { λ k. ⌜ (k ≡ handedOn n) × (k ≤ n) ⌝ }
+{
+    if n / 3 <= 128 {
+        return n;
+    }
+    0
 }
 
 // How many of the table's numbers stand for n litters. More than 128 are refused as none are, so none are handed on.

@@ -1,3 +1,4 @@
 pub mod Bracket
 pub mod Mode
 pub mod Bound
+pub mod Reasons

@@ -3,7 +3,7 @@
 use mathlib.Core.Path.{_≡_, refl, ap, _∙_}
 use mathlib.Core.Bool.{Bool, true, false, _&&_}
 use mathlib.Core.List.{List}
-use Prim.Native.Nat.{ℕ, zero, suc, _+_, _*_, _%_, _≤_}
+use Prim.Native.Nat.{ℕ, zero, suc, _+_, _*_, _%_, _≤_, min, zero-le}
 use native.Mathlib.Nat.{suc-mul, add-comm, sub-zero, zero-add}
 use native.Mathlib.Omega.{arith}
 use borrow.Author.Tests.{leb-true}
@@ -13,8 +13,8 @@ use lib.Ieee.{Float}
 use Rattle.work.specs.declared.QuadratureEvaluations.{QuadratureEvaluations}
 use Rattle.work.specs.Work.{run, listed, listedL, told}
 use Rattle.work.specs.AtMost.{AtMost, rets, stops, both, more, at-most-listed}
-use Rattle.work.specs.Metered.{metered-is, split}
-use Rattle.work.specs.Share.{in-full}
+use Rattle.work.specs.Metered.{metered-is, within, split}
+use Rattle.work.specs.Share.{in-full, cap}
 use Rattle.legendre.specs.declared.Pair.{Pair}
 use Rattle.legendre.specs.Legendre.{legendreOf}
 use Rattle.posterior.specs.Integrand.{at}
@@ -61,7 +61,18 @@ module _ (rule : List Pair) (x : List Float) (ls : List ℕ) where
       let w = objective rule x ls in
       ap (λ m. m .used) (metered-is at (limit .0) 0 w) ∙ rw (sub-zero (limit .0), zero-add (length (listedL at (limit .0) w)))
 
+  -- it is never above the limit, nor above 4,215,424
+  pub objective-within : (limit : QuadratureEvaluations) → limitedOf rule x ls limit .used .0 ≤ min (limit .0) 4215424
+  unfolding limitedOf
+  objective-within limit =
+      let w = objective rule x ls in
+      rw (← cap at w (limit .0) 4215424 objective-at-most (lit≤ tt)) (within at (min (limit .0) 4215424) 0 w zero-le)
+
 -- called alone it is the run without a limit
 pub objective-in-full : (x : List Float) (ls : List ℕ) → objectiveOf x ls ≡ told toObjective noTotals (record { ended = run at (objective legendreOf x ls); used = length (listed at (objective legendreOf x ls)) })
 unfolding objectiveOf limitedOf
 objective-in-full x ls = rw (in-full at (objective legendreOf x ls) 8388608 (objective-at-most legendreOf x ls) (lit≤ tt))
+
+pub alone-within : (x : List Float) (ls : List ℕ) → objectiveOf x ls .used .0 ≤ 4215424
+unfolding objectiveOf
+alone-within x ls = objective-within legendreOf x ls (record { 0 = 8388608 })

@@ -3,3 +3,5 @@ pub mod Totals
 pub mod Objective
 pub mod Bound
 pub mod Refused
+pub mod Reasons
+pub mod Checks

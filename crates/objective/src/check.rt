@@ -18,7 +18,7 @@ fn valid_litter(successes: u32, total: u32, group: u32) -> bool
 }
 
 pub fn valid_litters(litters: &[u32]) -> bool
-    ensures { λ r. ⌜ r ≡ validLitters (now (litters .entry)) ⌝ }
+    ensures { λ r. ⌜ (r ≡ validLitters (now (litters .entry))) × (now (litters .exit) ≡ now (litters .entry)) ⌝ }
 {
     let n = litters.len() / 3;
     if litters.len() % 3 != 0 {

@@ -15,8 +15,12 @@ use Rattle.render.specs.Width.{width, length-render}
 use Rattle.print.specs.Answer.{refusalText, statusText, report, reportValues, activeText, reportText, fitText}
 
 -- 26 for a status, 265 for the report and 9 for the marks, at twenty digits a count
+abbrev pub longest : ℕ
+longest = 300
+
+-- what is asked of a buffer: the rest is for lines to come, so that hosts keep theirs
 abbrev pub room : ℕ
-room = 300
+room = 512
 
 pub refusal-fits : (number count reason : ℕ) → length (refusalText number count reason) ≤ 71
 unfolding refusalText width
@@ -57,13 +61,16 @@ choice-fits : (t : Bool) (x y : List ℕ) (n : ℕ) → length x ≤ n → lengt
 choice-fits true x y n p q = p
 choice-fits false x y n p q = q
 
-pub report-fits : (f : Fit) → length (reportText f) ≤ room
+pub report-fits : (f : Fit) → length (reportText f) ≤ longest
 unfolding reportText
 report-fits f =
     let h = length-render report (reportValues f) in
     simp length-append (omega (arith, status-fits (f .status), report-width, h, active-fits (getD (f .active) 0 false) (getD (f .active) 1 false) (getD (f .active) 2 false) (getD (f .active) 3 false)))
 
-pub answer-fits : (f : Fit) → length (fitText f) ≤ room
+pub longest-fits : (f : Fit) → length (fitText f) ≤ longest
 unfolding fitText
-answer-fits f =
-    choice-fits (isRefused (f .end)) _ _ room (omega (arith, refusal-fits (numberOf (f .end)) (f .quadrature .0) (reasonOf (f .end)))) (report-fits f)
+longest-fits f =
+    choice-fits (isRefused (f .end)) _ _ longest (omega (arith, refusal-fits (numberOf (f .end)) (f .quadrature .0) (reasonOf (f .end)))) (report-fits f)
+
+pub answer-fits : (f : Fit) → length (fitText f) ≤ room
+answer-fits f = let h = longest-fits f in omega arith

@@ -1,13 +1,19 @@
 -- The laws of the exported functions.
-use mathlib.Core.Path.{_≡_, refl}
+use mathlib.Core.Path.{_≡_, refl, sym, _∙_}
 use mathlib.Core.Bool.{Bool, true, false, not, _&&_}
-use mathlib.Core.List.{List}
+use mathlib.Core.List.{List, []}
 use Prim.Native.Nat.{ℕ, _≤_}
 use native.Mathlib.Omega.{arith}
-use borrow.Author.Tests.{eqb-true, leb-true}
+use borrow.Author.Tests.{eqb-true, leb-true, leb-false}
 use lib.Dec.{eqb, leb}
+use lib.ListN.{length, take}
+use lib.Seq.{take-length}
 use lib.Ieee.{Float}
 use Rattle.num.specs.Choose.{by-not-true}
+use Rattle.work.specs.Metered.{split}
+use Rattle.objective.specs.Litters.{countOf}
+use Rattle.objective.specs.Refused.{none-invalid}
+use Rattle.litters.specs.Litters.{handedOn}
 use Rattle.objective.specs.declared.sum.Objective.{Objective}
 use Rattle.objective.specs.Objective.{objectiveOf}
 use Rattle.summary.specs.declared.Summary.{Summary}
@@ -15,6 +21,7 @@ use Rattle.summary.specs.Summary.{summaryOf}
 use Rattle.request.specs.declared.Request.{Request}
 use Rattle.fit.specs.declared.report.Fit.{Fit}
 use Rattle.fit.specs.Fit.{fitOf}
+use Rattle.fit.specs.Refused.{invalid-refused, many-refused}
 use Rattle.buffers.specs.Buffers.{Given, fitPut, objectivePut, summaryPut}
 
 -- ---- a test of three lengths that passed
@@ -41,6 +48,13 @@ module _ (k n c b p q : ℕ) (t : Bool) (e : t ≡ (eqb b k && (leb n p && leb c
 
   pub room-counts : c ≤ q
   room-counts = leb-true c q (right (leb n p) (leb c q) both)
+
+-- ---- a run of litters that is too long is refused as an empty one is
+pub handed-on : (r : Request) (ls : List ℕ) (k : ℕ) → k ≡ handedOn (length ls) → fitOf r (take k ls) ≡ fitOf r ls
+handed-on r ls k e =
+    split (leb (countOf ls) 128)
+    (λ b. rw (e, b, take-length ls))
+    (λ b. rw (e, b) (invalid-refused r [] none-invalid ∙ sym (many-refused r ls (leb-false (countOf ls) 128 b))))
 
 -- ---- what is put is the definition's answer
 pub fit-is : (g : Given) (f : Fit) (r q : Request) (ls : List ℕ) (l : List Float) (c : List ℕ) → g ≡ fitPut f l c → f ≡ fitOf r ls → r ≡ q → g ≡ fitPut (fitOf q ls) l c

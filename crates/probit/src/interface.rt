@@ -1,4 +1,5 @@
 // The functions for C and Rust, in the static library. include/probit.h says how to call each.
+use fit::Fit;
 use request::Bounds;
 use request::Request;
 use work::FitEvaluations;
@@ -39,6 +40,14 @@ fn request(b: &[f64], tolerance: f64, evaluations: u64, iterations: u64, quadrat
     }
 }
 
+// So the litters of a run that is too long are not walked along.
+fn fitted(r: Request, litters: &[u32]) -> Fit
+    ensures { λ f. ⌜ (f ≡ fitOf r (now (litters .entry))) × (now (litters .exit) ≡ now (litters .entry)) ⌝ }
+{
+    let k = litters::handed_on(litters.len());
+    fit::fit_probit_normal_binomial(r, &litters[..k])
+}
+
 // Twelve bounds: low, high and start of mean 0, mean 1, SD 0, SD 1. Answers the ending's number.
 #[no_mangle]
 pub extern "C" fn probit_fit(
@@ -58,7 +67,7 @@ pub extern "C" fn probit_fit(
         return 1;
     }
     let r = request(bounds, tolerance, evaluations, iterations, quadrature);
-    buffers::put_fit(fit::fit_probit_normal_binomial(r, litters), numbers, counts)
+    buffers::put_fit(fitted(r, litters), numbers, counts)
 }
 
 fn point_of(p: &[f64]) -> [f64; 4]
@@ -99,7 +108,15 @@ pub extern "C" fn probit_summary(litters: &[u32], counts: &mut [u64]) -> u64
     buffers::put_summary(summary::summarize(litters), counts)
 }
 
-// A request's bytes in, its answer's bytes out: how many, or 0 where `out` has fewer than 300 bytes, and then it is left as it was.
+// The interface's version: 1000 times its first number, and its second.
+#[no_mangle]
+pub extern "C" fn probit_version() -> u64
+    ensures { λ r. ⌜ r ≡ 1000 ⌝ }
+{
+    1000
+}
+
+// A request's bytes in, its answer's bytes out: how many, or 0 where `out` has fewer than 512 bytes, and then it is left as it was.
 #[no_mangle]
 pub extern "C" fn probit_text(request: &[u8], out: &mut [u8]) -> usize
     ensures { λ n. ⌜ (length (now (out .entry)) < room → (n ≡ 0) × (now (out .exit) ≡ now (out .entry))) ⌝ }

@@ -50,7 +50,7 @@ fn read_all(request: &mut [u8]) -> Read {
 
 fn answer(request: &[u8], end: usize) {
     let n = least(end, request.len());
-    let mut out = [0u8; 300];
+    let mut out = [0u8; 512];
     let m = text::answer(&request[..n], &mut out);
     if !io::write_all(STDOUT_FILENO, &out[..m]) {
         io::write_all(

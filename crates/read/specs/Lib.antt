@@ -1,5 +1,7 @@
 pub mod Request
 pub mod Rows
 pub mod BothWays
+pub mod Filled
 pub mod Points
 pub mod Departure
+pub mod LineNumber

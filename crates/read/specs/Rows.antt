@@ -1,14 +1,15 @@
 -- The litters as the code keeps them: three numbers a litter, in the engine's order, for 128 litters at most.
-use mathlib.Core.Bool.{false, cond}
+use mathlib.Core.Bool.{true, false, cond}
 use mathlib.Core.List.{List, [], _∷_}
-use Prim.Native.Nat.{ℕ, _+_}
+use Prim.Native.Nat.{ℕ, zero, suc, _+_}
 use lib.Dec.{ltb}
 use lib.ListN.{length, getD, replicate}
+use Rattle.form.specs.Read.{Reading, done, departsAt, read}
 use Rattle.litters.specs.Litters.{rowIn}
 use Rattle.read.specs.declared.Lines.{Lines}
 use Rattle.read.specs.declared.Lines.the-variants.{Litters, Departs}
 use Rattle.read.specs.declared.Asking.{Asking}
-use Rattle.read.specs.Request.{Asked, asked, form}
+use Rattle.read.specs.Request.{head, litter, Asked, asked, form}
 
 -- the n-th litter put into its place of a buffer; the litter is group, successes, total
 unfoldable pub putLitter : List ℕ → ℕ → List ℕ → List ℕ
@@ -19,24 +20,37 @@ unfoldable pub putLitters : List ℕ → ℕ → List (List ℕ) → List ℕ
 putLitters b n [] = b
 putLitters b n (l ∷ ls) = putLitters (putLitter b n l) (n + 1) ls
 
--- what is left of a request when its litters lie in a buffer: the head's values, the number of litters, the buffer
-pub data Kept : Type 0 where
-  kept : List ℕ → ℕ → List ℕ → Kept
-  departs : ℕ → Kept
+-- the buffer after the litter lines that stand at s, at most k of them, the first the n-th litter's
+abbrev pub fillRow : ℕ → List ℕ → Reading → (List ℕ → List ℕ → List ℕ) → List ℕ
+fillRow n b (done l t) go = go (putLitter b n l) t
+fillRow n b (departsAt line) go = b
 
--- the n litters before have their places already
-abbrev pub keptOf : List ℕ → ℕ → Asked → Kept
-keptOf b n (asked vs ls) = kept vs (n + length ls) (putLitters b n ls)
-keptOf b n (form line) = departs line
+unfoldable pub fillRows : ℕ → ℕ → List ℕ → List ℕ → List ℕ
+fillRows zero n b s = b
+fillRows (suc k) n b s = fillRow n b (read litter (8 + n) s) (fillRows k (n + 1))
 
--- ---- what the code's answers say
+-- the same of a whole text: its litter lines up to the last line or to the line at which it departs
+abbrev pub fillAfter : List ℕ → Reading → List ℕ
+fillAfter b (departsAt line) = b
+fillAfter b (done vs s) = fillRows 8192 0 b s
 
-abbrev pub rowsSay : List ℕ → Lines → List ℕ → Kept
-rowsSay vs (Litters n) b = kept vs n b
-rowsSay vs (Departs line) b = departs line
+unfoldable pub fillRequest : List ℕ → List ℕ → List ℕ
+fillRequest b text = cond (ltb 8192 (length text)) b (fillAfter b (read head 1 text))
 
-abbrev pub requestSays : Asking → List ℕ → Kept
-requestSays r b = cond (r .fits) (kept (r .values) (r .count) b) (departs (r .line))
+-- ---- the code's answers
+
+abbrev pub heldOf : List ℕ → ℕ → Asking
+heldOf vs n = record { fits = true; line = 0; count = n; values = vs }
 
 abbrev pub departedOf : ℕ → Asking
 departedOf line = record { fits = false; line = line; count = 0; values = replicate 16 0 }
+
+-- the whole answer; n litters were before
+abbrev pub askingOf : ℕ → Asked → Asking
+askingOf n (asked vs ls) = heldOf vs (n + length ls)
+askingOf n (form line) = departedOf line
+
+-- what the lines after the head say, beside the head's values
+abbrev pub rowsSay : List ℕ → Lines → Asking
+rowsSay vs (Litters n) = heldOf vs n
+rowsSay vs (Departs line) = departedOf line

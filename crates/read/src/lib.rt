@@ -6,7 +6,7 @@ ghost use lib.ListN.{length, getD, drop};
 ghost use Rattle.form.specs.Read.{read as Form·read};
 ghost use Rattle.read.specs.Request.{readLast, readRows, readRequest};
 ghost use Rattle.read.specs.Request.{rows as Request·rows};
-ghost use Rattle.read.specs.Rows.{putLitter, keptOf, rowsSay, requestSays, departedOf};
+ghost use Rattle.read.specs.Rows.{putLitter, fillRows, fillRequest, askingOf, rowsSay, departedOf};
 
 // The number of litters, or the line at which the text departs.
 pub enum Lines {
@@ -14,7 +14,7 @@ pub enum Lines {
     Departs(u64),
 }
 
-// `values` and `count` are the request's where the text has the form; else `line` is the line at which it departs.
+// `values` and `count` are the request's where the text has the form; else `line` is the line at which it departs, beside zeros.
 pub struct Asking {
     pub fits: bool,
     pub line: u64,
@@ -25,7 +25,7 @@ pub struct Asking {
 // The last line, after n litters of which the first starts at `start`.
 fn last(text: &[u8], at: usize, n: u64, start: usize) -> Lines
     requires { ⌜ (at ≤ length (now text)) × (n ≤ 8192) ⌝ }
-    ensures { λ r. ⌜ ((vs b : List ℕ) → rowsSay vs r b ≡ keptOf b n (readLast vs (8 + n) start n (Form·read Request·rows (8 + n) (drop at (now (text .entry)))))) ⌝ }
+    ensures { λ r. ⌜ ((vs : List ℕ) → rowsSay vs r ≡ askingOf n (readLast vs (8 + n) start n (Form·read Request·rows (8 + n) (drop at (now (text .entry)))))) ⌝ }
 {
     let line = 8 + n;
     let r = form::read::read(text, at, b"rows # at #\n", line);
@@ -62,7 +62,7 @@ fn put(v: [u64; 16], n: u64, litters: &mut [u32; 384])
 // The lines after the head, the first of which starts at `start`.
 fn rows(text: &[u8], start: usize, litters: &mut [u32; 384]) -> Lines
     requires { ⌜ start ≤ length (now text) ⌝ }
-    ensures { λ r. ⌜ ((vs : List ℕ) → rowsSay vs r (now (litters .exit)) ≡ keptOf (now (litters .entry)) 0 (readRows 8192 vs start 0 (drop start (now (text .entry))))) ⌝ }
+    ensures { λ r. ⌜ ((vs : List ℕ) → rowsSay vs r ≡ askingOf 0 (readRows 8192 vs start 0 (drop start (now (text .entry))))) × (now (litters .exit) ≡ fillRows 8192 0 (now (litters .entry)) (drop start (now (text .entry)))) ⌝ }
 {
     let mut at = start;
     for n in 0..8192u64 {
@@ -89,7 +89,7 @@ fn departed(line: u64) -> Asking
 }
 
 pub fn request(text: &[u8], litters: &mut [u32; 384]) -> Asking
-    ensures { λ r. ⌜ requestSays r (now (litters .exit)) ≡ keptOf (now (litters .entry)) 0 (readRequest (now (text .entry))) ⌝ }
+    ensures { λ r. ⌜ (r ≡ askingOf 0 (readRequest (now (text .entry)))) × (now (litters .exit) ≡ fillRequest (now (litters .entry)) (now (text .entry))) ⌝ }
 {
     if 8192 < text.len() {
         return departed(0);

@@ -59,7 +59,7 @@ fn is_same(a: &[u8], b: &[u8]) -> bool {
 }
 
 fn is_answered(request: &[u8], stored: &[u8]) -> bool {
-    let mut out = [0u8; 300];
+    let mut out = [0u8; 512];
     let m = text::answer(request, &mut out);
     is_same(&out[..m], stored)
 }

@@ -123,7 +123,7 @@ fn two_each(litters: &[u32]) -> bool
 }
 
 pub fn admitted(r: Request, litters: &[u32]) -> bool
-    ensures { λ b. ⌜ b ≡ admits r (now (litters .entry)) ⌝ }
+    ensures { λ b. ⌜ (b ≡ admits r (now (litters .entry))) × (now (litters .exit) ≡ now (litters .entry)) ⌝ }
 {
     let a = valid_boxes(r);
     let b = valid_controls(r);

@@ -11,7 +11,7 @@ use Rattle.num.specs.F64.{zero·}
 use Rattle.work.specs.declared.Ending.the-variants.{WorkBudget}
 use Rattle.work.specs.declared.QuadratureEvaluations.{QuadratureEvaluations}
 use Rattle.work.specs.Ended.{Ended, done, stopped, short, endOf, invalid, domain}
-use Rattle.work.specs.Work.{_>>=_, metered, listed, listedL}
+use Rattle.work.specs.Work.{_>>=_, metered, listed, listedL, told}
 use Rattle.work.specs.Metered.{metered-is, within, short-at}
 use Rattle.work.specs.AtMost.{AtMost, rets, asks, either, both, at-most-listed}
 use Rattle.work.specs.Share.{cap}
@@ -21,7 +21,7 @@ use Rattle.mode.specs.Bound.{ends-at-most, checkEnds-at-most, peak-at-most}
 use Rattle.tail.specs.Bound.{goal-at-most, span-at-most}
 use Rattle.quadrature.specs.Bound.{ten-at-most}
 use Rattle.row.specs.Peak.{peaked, spanned}
-use Rattle.row.specs.Share.{spread, share, rowOf}
+use Rattle.row.specs.Share.{spread, share, noShare, toRow, rowOf}
 
 module _ (here : Float → Eval) where
   -- the mode, with its bracket: 32 + 2 + 101
@@ -59,6 +59,11 @@ module _ (litter successes total : ℕ) (rule : List Pair) (mean variance : Floa
   -- a limit l cut at 65,536 gives the same ending, value and count as l
   pub cap-never-binds : (l : ℕ) → metered at (min l 65536) 0 (share litter successes total rule mean variance) ≡ metered at l 0 (share litter successes total rule mean variance)
   cap-never-binds l = cap at (share litter successes total rule mean variance) l 65536 share-at-most (omega arith)
+
+  -- and so the row is the same, whether or not the limit is cut
+  pub row-cap : (limit : QuadratureEvaluations) → rowOf litter successes total rule mean variance (record { 0 = min (limit .0) 65536 }) ≡ rowOf litter successes total rule mean variance limit
+  unfolding rowOf
+  row-cap limit = ap (told toRow noShare) (cap-never-binds (limit .0))
 
   -- the count that the code reports is the length of the list of evaluations made under its limit
   pub row-count : (limit : QuadratureEvaluations) → rowOf litter successes total rule mean variance limit .used .0 ≡ length (listedL at (limit .0) (share litter successes total rule mean variance))

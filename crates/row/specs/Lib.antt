@@ -2,3 +2,4 @@ pub mod Coefficient
 pub mod Peak
 pub mod Share
 pub mod Bound
+pub mod Reasons

@@ -71,7 +71,7 @@ pub fn litter_counts(asked: u32, successes: u32, total: u32, group: u32) -> Grou
 // The counts of one group. So short a slice cannot overflow them, whatever its numbers.
 pub fn counts(litters: &[u32], asked: u32) -> GroupCounts
     requires { ⌜ length (now litters) < 0x1_0000_0000 ⌝ }
-    ensures { λ r. ⌜ r ≡ countsOf (now (litters .entry)) asked ⌝ }
+    ensures { λ r. ⌜ (r ≡ countsOf (now (litters .entry)) asked) × (now (litters .exit) ≡ now (litters .entry)) ⌝ }
 {
     let n = litters.len() / 3;
     let mut c = no_counts();

@@ -1,6 +1,6 @@
 -- From what was read to what is printed: numbers of bits, the litters in the buffer, and each way an answer is found.
-use mathlib.Core.Path.{_≡_, refl, sym, subst, _∙_}
-use mathlib.Core.Bool.{Bool, true, false, cond, not}
+use mathlib.Core.Path.{_≡_, refl, sym, ap, subst, _∙_}
+use mathlib.Core.Bool.{Bool, true, false, cond, not, true≢false, false≢true}
 use mathlib.Core.List.{List, [], _∷_, _++_, append-assoc, append-nil}
 use Prim.Native.Nat.{ℕ, suc, _+_, _*_, _%_, _^_, _≤_, _<_}
 use native.Mathlib.Omega.{arith}
@@ -10,16 +10,16 @@ use lib.Ieee.{Float, nan, inf, fin, binary64, isNan, nanBits}
 use lib.Ieee.Bits.{nanBits-is, nanBits-above}
 use borrow.Author.Tests.{lt-ltb, le-ltb, not-true, not-false}
 use Rattle.num.specs.F64.{bits}
-use Rattle.objective.specs.Litters.{countOf}
 use Rattle.fit.specs.Fit.{fitOf}
-use Rattle.fit.specs.Refused.{many-refused}
 use Rattle.read.specs.declared.Asking.{Asking}
 use Rattle.read.specs.Request.{Asked, asked, form, readRequest}
 use Rattle.litters.specs.Litters.{rowIn}
 use Rattle.litters.specs.Kept.{row-length, row-taken}
-use Rattle.read.specs.Rows.{putLitter, putLitters, keptOf, requestSays}
+use Rattle.read.specs.Rows.{putLitter, putLitters, fillRequest, askingOf}
+use Rattle.read.specs.Filled.{request-filled}
 use Rattle.print.specs.Answer.{refusalText, fitText}
 use Rattle.text.specs.Answer.{requestIn, littersOf, answerTo, answerText}
+use Rattle.text.specs.Answered.{many-answer}
 
 -- ---- a number of its bits
 
@@ -58,11 +58,6 @@ kept-litters b n (l ∷ ls) s h =
     let ih = kept-litters (putLitter b n l) (n + 1) ls (length-put b l n ∙ s) (omega arith) in
     rw e (ih ∙ rw (put-three b l n s m) (append-assoc (take (3 * n) b) (getD l 1 0 ∷ getD l 2 0 ∷ getD l 0 0 ∷ []) (littersOf ls)))
 
-length-litters : (ls : List (List ℕ)) → length (littersOf ls) ≡ 3 * length ls
-unfolding littersOf
-length-litters [] = refl
-length-litters (l ∷ ls) = rw (length-litters ls) (omega arith)
-
 length-puts : (b : List ℕ) (n : ℕ) (ls : List (List ℕ)) → length (putLitters b n ls) ≡ length b
 unfolding putLitters
 length-puts b n [] = refl
@@ -70,46 +65,40 @@ length-puts b n (l ∷ ls) = length-puts (putLitter b n l) (n + 1) ls ∙ length
 
 -- ---- the three ways
 
-count-litters : (ls : List (List ℕ)) → countOf (littersOf ls) ≡ length ls
-count-litters ls = omega (arith, length-litters ls)
-
+-- beside what was asked, q, the answer a and the buffer that the code has
 module _ (b buf : List ℕ) (a : Asking) where
-  form-of : (q : Asked) → requestSays a buf ≡ keptOf b 0 q → a .fits ≡ false → answerTo q ≡ refusalText 4 0 (a .line)
-  form-of (form k) s f = let e : k ≡ a .line = cc (rw f at s) in rw e
-  form-of (asked vs ls) s f = let z : _≡_ {A = ℕ} 0 1 = cc (rw f at s) in absurd (omega arith)
+  form-of : (q : Asked) → a ≡ askingOf 0 q → a .fits ≡ false → answerTo q ≡ refusalText 4 0 (a .line)
+  form-of (form k) s f = let e : k ≡ a .line = rw s in rw e
+  form-of (asked vs ls) s f = absurd (true≢false (sym (ap (λ (x : Asking). x .fits) s) ∙ f))
 
-  many-of : (q : Asked) → requestSays a buf ≡ keptOf b 0 q → a .fits ≡ true → 128 < a .count → answerTo q ≡ refusalText 1 0 0
-  unfolding fitText
-  many-of (form k) s f h = let z : _≡_ {A = ℕ} 0 1 = cc (rw f at s) in absurd (omega arith)
-  many-of (asked vs ls) s f h =
-      let e : a .count ≡ 0 + length ls = cc (rw f at s) in
-      let m : 128 < countOf (littersOf ls) = omega (arith, count-litters ls) in
-      rw (many-refused (requestIn vs) (littersOf ls) m)
+  many-of : (q : Asked) → a ≡ askingOf 0 q → a .fits ≡ true → 128 < a .count → answerTo q ≡ refusalText 1 0 0
+  many-of (form k) s f h = absurd (false≢true (sym (ap (λ (x : Asking). x .fits) s) ∙ f))
+  many-of (asked vs ls) s f h = let e : a .count ≡ 0 + length ls = rw s in many-answer vs ls (omega arith)
 
-  fit-of : (q : Asked) → requestSays a buf ≡ keptOf b 0 q → a .fits ≡ true → length b ≡ 384 → a .count ≤ 128 → answerTo q ≡ fitText (fitOf (requestIn (a .values)) (take (3 * a .count) buf))
-  fit-of (form k) s f l h = let z : _≡_ {A = ℕ} 0 1 = cc (rw f at s) in absurd (omega arith)
-  fit-of (asked vs ls) s f l h =
-      let e : a .count ≡ 0 + length ls = cc (rw f at s) in
-      let v : a .values ≡ vs = cc (rw f at s) in
-      let w : buf ≡ putLitters b 0 ls = cc (rw f at s) in
+  fit-of : (text : List ℕ) (q : Asked) → readRequest text ≡ q → a ≡ askingOf 0 q → buf ≡ fillRequest b text → a .fits ≡ true → length b ≡ 384 → a .count ≤ 128 → answerTo q ≡ fitText (fitOf (requestIn (a .values)) (take (3 * a .count) buf))
+  fit-of text (form k) t s u f l h = absurd (false≢true (sym (ap (λ (x : Asking). x .fits) s) ∙ f))
+  fit-of text (asked vs ls) t s u f l h =
+      let e : a .count ≡ 0 + length ls = rw s in
+      let v : a .values ≡ vs = rw s in
+      let w : buf ≡ putLitters b 0 ls = u ∙ request-filled b text vs ls t in
       rw (v, w, e, kept-litters b 0 ls l (omega arith))
 
-  length-of : (q : Asked) → requestSays a buf ≡ keptOf b 0 q → a .fits ≡ true → length buf ≡ length b
-  length-of (form k) s f = let z : _≡_ {A = ℕ} 0 1 = cc (rw f at s) in absurd (omega arith)
-  length-of (asked vs ls) s f = let w : buf ≡ putLitters b 0 ls = cc (rw f at s) in rw w (length-puts b 0 ls)
+  length-of : (text : List ℕ) (q : Asked) → readRequest text ≡ q → a ≡ askingOf 0 q → buf ≡ fillRequest b text → a .fits ≡ true → length buf ≡ length b
+  length-of text (form k) t s u f = absurd (false≢true (sym (ap (λ (x : Asking). x .fits) s) ∙ f))
+  length-of text (asked vs ls) t s u f = rw (u ∙ request-filled b text vs ls t) (length-puts b 0 ls)
 
-  module _ (text : List ℕ) (s : requestSays a buf ≡ keptOf b 0 (readRequest text)) where
+  module _ (text : List ℕ) (s : (a ≡ askingOf 0 (readRequest text)) × (buf ≡ fillRequest b text)) where
     pub buffer-length : not (a .fits) ≡ false → length buf ≡ length b
-    buffer-length f = length-of (readRequest text) s (not-false (a .fits) f)
+    buffer-length f = length-of text (readRequest text) refl (s .0) (s .1) (not-false (a .fits) f)
 
     pub answer-form : not (a .fits) ≡ true → refusalText 4 0 (a .line) ≡ answerText text
     unfolding answerText
-    answer-form f = sym (form-of (readRequest text) s (not-true (a .fits) f))
+    answer-form f = sym (form-of (readRequest text) (s .0) (not-true (a .fits) f))
 
     pub answer-many : not (a .fits) ≡ false → 128 < a .count → refusalText 1 0 0 ≡ answerText text
     unfolding answerText
-    answer-many f h = sym (many-of (readRequest text) s (not-false (a .fits) f) h)
+    answer-many f h = sym (many-of (readRequest text) (s .0) (not-false (a .fits) f) h)
 
     pub answer-fit : not (a .fits) ≡ false → length b ≡ 384 → a .count ≤ 128 → fitText (fitOf (requestIn (a .values)) (take (3 * a .count) buf)) ≡ answerText text
     unfolding answerText
-    answer-fit f l h = sym (fit-of (readRequest text) s (not-false (a .fits) f) l h)
+    answer-fit f l h = sym (fit-of text (readRequest text) refl (s .0) (s .1) (not-false (a .fits) f) l h)

@@ -62,7 +62,7 @@ pub fn answer(text: &[u8], out: &mut [u8]) -> usize
     ensures { λ n. ⌜ (room ≤ length (now (out .entry)) → (n ≡ length (answerText (now (text .entry)))) × (now (out .exit) ≡ written (now (out .entry)) 0 (answerText (now (text .entry))))) ⌝ }
     ensures { λ n. ⌜ n ≤ room ⌝ }
 {
-    if out.len() < 300 {
+    if out.len() < 512 {
         return 0;
     }
     let mut litters = [0u32; 384];

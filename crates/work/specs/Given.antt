@@ -3,7 +3,8 @@ use mathlib.Core.Path.{_≡_, refl}
 use mathlib.Core.Bool.{Bool, true, false, cond}
 use Prim.Native.Nat.{ℕ, zero, suc, _-_}
 use native.Mathlib.Omega.{arith}
-use Rattle.work.specs.Ended.{Why, done}
+use Rattle.work.specs.declared.Ending.the-variants.{Answered}
+use Rattle.work.specs.Ended.{Why, done, endOf, valueOr, answered-value}
 use Rattle.work.specs.Work.{Work, ret, stop, ask, _>>=_, run, runL, metered}
 use Rattle.work.specs.Metered.{split, metered-is}
 
@@ -57,6 +58,10 @@ module _ {E X A : Type 0} {G : E → X → Type 0} {P : A → Type 0} where
 
     pub of-metered : (l u : ℕ) {w : Work E X A} (a : A) → Given G P w → metered at l u w .ended ≡ done a → P a
     of-metered l u {w} a h e = of-runL (l - u) a h (rw (metered-is at l u w) at e)
+
+    -- of the value in the record that code returns, where it answers
+    pub of-answer : (l u : ℕ) {w : Work E X A} (d : A) → Given G P w → endOf (metered at l u w .ended) ≡ Answered → P (valueOr d (metered at l u w .ended))
+    of-answer l u {w} d h e = of-metered l u _ h (answered-value d (metered at l u w .ended) e)
 
 -- what every value has, the answers of every computation have
 pub anything : {E X A : Type 0} {G : E → X → Type 0} {P : A → Type 0} → ((a : A) → P a) → (w : Work E X A) → Given G P w

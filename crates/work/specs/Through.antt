@@ -5,6 +5,7 @@ use Rattle.work.specs.Ended.{Why, Ended, done, stopped, short}
 use Rattle.work.specs.Work.{Work, ret, stop, ask, _>>=_, Metered, metered}
 use Rattle.work.specs.Metered.{after, metered-bind}
 use Rattle.work.specs.Given.{Given, holds, refuses, hears, passed}
+use Rattle.work.specs.Stops as stops
 
 unfoldable pub through : {E Y Q O A : Type 0} → (Q → Work E Y O) → Work Q O A → Work E Y A
 through ev (ret a) = ret a
@@ -57,3 +58,10 @@ unfolding through
 answered ev h (holds p) = holds p
 answered ev h refuses = refuses
 answered ev h (hears {e = q} b) = passed (h q) (λ c g. answered ev h (b c g))
+
+-- where a computation never stops by itself, every refusal is a question's
+pub refused-by : {E Y Q O A : Type 0} {P : Why → Type 0} {w : Work Q O A} (ev : Q → Work E Y O) → ((q : Q) → stops.Stops P (ev q)) → stops.Stops (λ r. ⊥) w → stops.Stops P (through ev w)
+unfolding through
+refused-by ev h stops.answers = stops.answers
+refused-by ev h (stops.refuses i) = absurd i
+refused-by ev h (stops.hears {e = q} b) = stops.passed (h q) (λ c. refused-by ev h (b c))

@@ -4,9 +4,9 @@ use native.Mathlib.Omega.{arith}
 use lib.Dec.{lit≤}
 use Rattle.form.specs.Form.{holes}
 use Rattle.read.specs.Request.{head}
-use Rattle.read.specs.Rows.{keptOf}
+use Rattle.read.specs.Rows.{askingOf}
 use borrow.Author.Needs.{needs}
-use Rattle.read.proofs.Laws.{too-long, head-departs, head-read, say-litters, say-departs}
+use Rattle.read.proofs.Laws.{head-inside, too-long, head-departs, head-read, head-filled, say-litters, say-departs}
 use Rattle.read.proofs.request.Statement.{statement}
 use Rattle.read.proofs.request.Tie as tie
 
@@ -19,7 +19,7 @@ no-head c =
     let r = c .before .before .before in
     let e = r .before .before in
     let a = e .before .before .args in
-    rw (c .departed2 .ensures) (head-departs (a .litters .now) (a .text .now) (r .read .result) (e .if1 .left) (r .read .ensures .0) (c .before .if2 .taken))
+    rw (c .departed2 .ensures) (head-departs (a .litters .now) (a .text .now) (r .read .result) _ (e .if1 .left) (r .read .ensures) (c .before .if2 .taken))
 
 whole : tie.Need-returns-3
 unfolding holes head
@@ -29,9 +29,11 @@ whole c =
     let r = f .before .before in
     let e = r .before .before in
     let a = e .before .before .args in
-    let v = r .read .result .values in
-    say-litters v (l .rows .last .1 .1 .0) (l .rows .result) _ (l .rows .ensures v) (c .before .count .given .0 .0) (c .before .count .given .1) ∙
-    ap (keptOf (a .litters .now) 0) (head-read (a .litters .now) (a .text .now) (r .read .result) (e .if1 .left) (r .read .ensures .0) (f .if2 .left) (r .read .ensures .1) (r .read .ensures .2))
+    let v = r .read .result .values in (
+      say-litters v (l .rows .result) _ (l .rows .ensures .0 v) (c .before .count .given .0 .0) (c .before .count .given .1) ∙
+          ap (askingOf 0) (head-read (a .litters .now) (a .text .now) (r .read .result) _ (e .if1 .left) (r .read .ensures) (f .if2 .left)),
+      l .rows .ensures .1 ∙ head-filled (a .litters .now) (a .text .now) (r .read .result) _ (e .if1 .left) (r .read .ensures) (f .if2 .left),
+    )
 
 no-rows : tie.Need-returns-4
 unfolding holes head
@@ -42,9 +44,17 @@ no-rows c =
     let e = r .before .before in
     let a = e .before .before .args in
     let v = r .read .result .values in
-    rw (c .departed3 .ensures)
-    (say-departs v (l .rows .last .1 .1 .0) (l .rows .result) _ (l .rows .ensures v) (c .before .before .line .given .0 .0) (c .before .before .line .given .1) ∙
-    ap (keptOf (a .litters .now) 0) (head-read (a .litters .now) (a .text .now) (r .read .result) (e .if1 .left) (r .read .ensures .0) (f .if2 .left) (r .read .ensures .1) (r .read .ensures .2)))
+    rw (c .departed3 .ensures) (
+      say-departs v (l .rows .result) _ (l .rows .ensures .0 v) (c .before .before .line .given .0 .0) (c .before .before .line .given .1) ∙
+          ap (askingOf 0) (head-read (a .litters .now) (a .text .now) (r .read .result) _ (e .if1 .left) (r .read .ensures) (f .if2 .left)),
+      l .rows .ensures .1 ∙ head-filled (a .litters .now) (a .text .now) (r .read .result) _ (e .if1 .left) (r .read .ensures) (f .if2 .left),
+    )
+
+inside : tie.Need-rows-requires
+unfolding holes head
+inside c κs =
+    let r = c .before .before .before .before in
+    head-inside (r .before .before .before .before .args .text .now) _ (r .read .result) (r .read .ensures)
 
 pub request-spec : {M : Type 1} → statement M
 unfolding holes head
@@ -57,7 +67,7 @@ request-spec =
     (λ c κs. (search needs, lit≤ tt, omega arith))
     (λ c κs. search needs)
     no-head
-    (λ c κs. search needs)
+    inside
     (λ c. search needs)
     (λ c. search needs)
     (λ c κs. search needs)

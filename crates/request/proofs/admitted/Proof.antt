@@ -1,4 +1,5 @@
 -- `request::admitted` meets its contract, by what its callees ensure.
+use mathlib.Core.Path.{refl}
 use Rattle.request.specs.Request.{admits}
 use borrow.Author.Needs.{needs}
 use Rattle.request.proofs.admitted.Statement.{statement}
@@ -16,4 +17,4 @@ admitted-spec =
     (λ c κs. search needs)
     (λ c κs. search needs)
     (λ c κs. search needs)
-    (λ c. cc))
+    (λ c. (cc, refl)))

@@ -9,4 +9,4 @@ is-boxed-spec =
     (tie.spec
     (λ c κs. search needs)
     (λ c κs. search needs)
-    (λ c. cc))
+    (λ c. rw (c .both2 .ensures, c .before .both .ensures)))

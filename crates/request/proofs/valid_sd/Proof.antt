@@ -15,4 +15,7 @@ valid-sd-spec =
     (λ c κs. search needs)
     (λ c κs. search needs)
     (λ c κs. search needs)
-    (λ c. cc))
+    (λ c.
+    let b = c .before .before .before in
+    let i = b .before in
+    rw (c .both4 .ensures, c .before .both3 .ensures, c .before .before .both2 .ensures, b .both .ensures, i .is-boxed .ensures, i .before .finite-three .ensures)))

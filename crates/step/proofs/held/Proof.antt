@@ -9,4 +9,4 @@ held-spec =
     (tie.spec
     (λ c κs. search needs)
     (λ c κs. search needs)
-    (λ c. cc))
+    (λ c. rw (c .both .ensures, c .before .either .ensures)))

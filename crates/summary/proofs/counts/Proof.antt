@@ -38,7 +38,7 @@ loop-again c =
     (v .0, within-more _ _ _ _ _ _ _ (v .1) one (omega (arith, number (3 * i))) (omega (arith, number (3 * i + 1))) _ (c .plus .ensures), counts-turn _ _ _ _ _ _ (v .2) _ _ (known .before .loop-test .taken) one (c .plus .ensures))
 
 returns : tie.Need-returns Inv-loop μ-loop
-returns c = search counts-done
+returns c = (search counts-done, refl)
 
 pub counts-spec : {M : Type 1} → statement M
 counts-spec =

@@ -7,7 +7,7 @@ use lib.ListN.{length, getD, take, drop}
 use Rattle.form.specs.Form.{holes}
 use Rattle.form.specs.Read.{departs, readField}
 use borrow.Author.Needs.{needs}
-use Rattle.form.proofs.ReadLaws.{kept-none, says-value, says-departs, read-stops, read-ends, none-left, Left, left-again}
+use Rattle.form.proofs.ReadLaws.{kept-none, says-value, says-departs, read-stops, read-ends, none-left, no-feeds-left, places-filled, Left, left-again, answer-departs, answer-done}
 use Rattle.form.proofs.read.read.Statement.{statement}
 use Rattle.form.proofs.read.read.Tie as tie
 
@@ -18,7 +18,7 @@ abbrev μ-loop : tie.MeasureT-loop
 μ-loop text start form first at₀ line₀ n₀ values₀ k₀ k-end at line n values k = k-end - k
 
 begins : tie.Need-loop-holds Inv-loop μ-loop
-begins c = (kept-none _, search needs, zero-add _, search needs, refl)
+begins c = (kept-none _, search needs, zero-add _, search needs, refl, refl, refl)
 
 departed : tie.Need-returns Inv-loop μ-loop
 departed c =
@@ -27,7 +27,7 @@ departed c =
     let a = t .before .before .before .before .before .before .args in
     let h : l .k < length (a .form .now) = omega arith in
     let f : readField (getD (a .form .now) (l .k) 0) (drop (l .at) (a .text .now)) ≡ departs = says-departs (a .text .now) _ _ (c .enum-told .given .1) (t .token-at .ensures) in
-    (read-stops (a .form .now) (a .text .now) (take (l .n) (l .values)) (l .k) (l .line) (l .at) _ (l .inv .0) h f, search needs, l .inv .4)
+    answer-departs (a .text .now) (l .line) _ _ (read-stops (a .form .now) (a .text .now) (take (l .n) (l .values)) (l .k) (l .line) (l .at) _ (l .inv .0) h f)
 
 again : tie.Need-loop-again Inv-loop μ-loop
 again c =
@@ -49,7 +49,9 @@ ended c =
     let b = c .before .before .before .before in
     let h : length (b .args .form .now) ≤ l .k = omega arith in
     let m : l .n ≡ holes (b .args .form .now) = none-left _ _ _ h (l .inv .2) in
-    (rw (← m) (read-ends (b .args .form .now) (b .args .text .now) (take (l .n) (l .values)) (l .k) (l .line) (l .at) _ (l .inv .0) h), l .inv .1, l .inv .4)
+    let e = no-feeds-left (b .args .form .now) (l .k) (l .line) _ h (l .inv .5) in
+    let p = places-filled (l .values) (l .n) (omega (arith, m, b .pre .1)) (l .inv .4) (l .inv .6) in
+    answer-done (b .args .text .now) (l .values) (l .at) (l .line) _ (l .n) _ (read-ends (b .args .form .now) (b .args .text .now) (take (l .n) (l .values)) (l .k) (l .line) (l .at) _ (l .inv .0) h) (l .inv .1) e p
 
 pub read-spec : {M : Type 1} → statement M
 read-spec =

@@ -56,9 +56,9 @@ valid-litters-spec =
     (tie.spec
     Inv-loop
     μ-loop
-    (λ c. search (choose, ne-eqb))
-    (λ c. search (choose, eq-eqb))
-    (λ c. search (choose, eq-eqb))
+    (λ c. (search (choose, ne-eqb), refl))
+    (λ c. (search (choose, eq-eqb), refl))
+    (λ c. (search (choose, eq-eqb), refl))
     loop-holds
     (λ c. omega arith)
     (λ c. omega arith)
@@ -70,8 +70,8 @@ valid-litters-spec =
     (λ c. omega arith)
     (λ c. omega arith)
     (λ c κs. search needs)
-    (λ c. search (stops, choose))
+    (λ c. (search (stops, choose), refl))
     (λ c. omega arith)
     (λ c. omega arith)
     loop-again
-    (λ c. search ends))
+    (λ c. (search ends, refl)))

@@ -1,0 +1,79 @@
+-- No second answer meets a contract over a text: what is read by a form, a request, a rendering, an answer, each with its lent buffer.
+use mathlib.Core.Path.{_≡_, refl, sym, ap, _∙_}
+use mathlib.Core.List.{List}
+use Prim.Native.Nat.{ℕ, _+_, _-_, _≤_, _<_}
+use native.Mathlib.Omega.{arith}
+use borrow.Author.Tests.{ltb-true, ltb-false}
+use borrow.Table.Steps.{cases}
+use lib.Dec.{ltb}
+use lib.ListN.{length, drop, length-drop}
+use Rattle.num.specs.F64.{bitsOf}
+use Rattle.fit.specs.declared.report.Fit.{Fit}
+use Rattle.form.specs.Digits.{digits}
+use Rattle.form.specs.Form.{render}
+use Rattle.form.specs.Read.{isDigit, isHex, hexValue, Field, found, departs, feeds, read}
+use Rattle.form.specs.declared.token.Token.{Token}
+use Rattle.form.specs.declared.token.Token.the-variants.{Value, Departs}
+use Rattle.form.specs.Says.{Says, valuesOf}
+use Rattle.read.specs.Request.{readRequest}
+use Rattle.read.specs.Rows.{fillRequest, askingOf}
+use Rattle.render.specs.Written.{written}
+use Rattle.print.specs.Answer.{refusalText, fitText}
+use Rattle.print.specs.Room.{room}
+use Rattle.text.specs.Answer.{requestIn, answerText}
+use Rattle.points.specs.OneAnswer.{One1, One2, One3, One4, One5, one-answer, one1, one2, one3, one4, one5}
+
+-- a token's place lies in the text, so the text from there on fixes it
+same-place : (text : List ℕ) (i j : ℕ) → i ≤ length text → j ≤ length text → drop i text ≡ drop j text → i ≡ j
+same-place text i j h g e =
+    let n : length text - i ≡ length text - j = sym (length-drop i text) ∙ ap length e ∙ length-drop j text in
+    omega arith
+
+not-found : (v : ℕ) (t : List ℕ) → departs ≡ found v t → ⊥
+not-found v t e = let z : _≡_ {A = ℕ} 0 1 = cc in omega arith
+
+pub of-token : (text : List ℕ) (f : Field) (r s : Token) → Says text r f → Says text s f → r ≡ s
+of-token text f (Value v i) (Value w j) a b =
+    let n : v ≡ w = cc (a .0, b .0) in
+    let t : drop i text ≡ drop j text = cc (a .0, b .0) in
+    rw (n, same-place text i j (a .1) (b .1) t)
+of-token text f (Value v i) Departs a b = absurd (not-found v (drop i text) (sym b ∙ a .0))
+of-token text f Departs (Value w j) a b = absurd (not-found w (drop j text) (sym a ∙ b .0))
+of-token text f Departs Departs a b = refl
+
+pub of-form : One1 isDigit × One1 isHex × One1 hexValue × One1 (λ c. c - 48) × One4 (λ (text : List ℕ) (start : ℕ) (form : List ℕ) (first : ℕ). valuesOf text (first + feeds form) (read form first (drop start text)))
+of-form = (one1 _, one1 _, one1 _, one1 _, one4 _)
+
+-- the answer, and the litters' buffer
+pub of-read : One1 (λ (text : List ℕ). askingOf 0 (readRequest text)) × One2 fillRequest
+of-read = (one1 _, one2 _)
+
+-- of `digits`, `text` and `put` the place after, and the buffer
+pub of-render :
+    One2 (λ (at k : ℕ). at + k) × One5 (λ (base k n : ℕ) (out : List ℕ) (at : ℕ). written out at (digits base k n)) ×
+    One2 (λ (s : List ℕ) (at : ℕ). at + length s) × One3 written ×
+    One3 (λ (form values : List ℕ) (at : ℕ). at + length (render form values)) × One4 (λ (form values out : List ℕ) (at : ℕ). written out at (render form values))
+of-render = (one2 _, one5 _, one2 _, one3 _, one3 _, one4 _)
+
+pub of-print :
+    One1 bitsOf × One3 (λ (number count reason : ℕ). length (refusalText number count reason)) × One4 (λ (number count reason : ℕ) (out : List ℕ). written out 0 (refusalText number count reason)) ×
+    One1 (λ (f : Fit). length (fitText f)) × One2 (λ (f : Fit) (out : List ℕ). written out 0 (fitText f))
+of-print = (one1 _, one3 _, one4 _, one1 _, one2 _)
+
+pub of-request-in : One1 requestIn
+of-request-in = one1 _
+
+-- `answer` and `probit_text` have two clauses, by the buffer's room
+abbrev pub Answers : List ℕ → List ℕ → ℕ → List ℕ → Type 0
+Answers text out n end =
+    (length out < room → (n ≡ 0) × (end ≡ out)) × (room ≤ length out → (n ≡ length (answerText text)) × (end ≡ written out 0 (answerText text)))
+
+pub of-answer : (text out : List ℕ) (n m : ℕ) (a b : List ℕ) → Answers text out n a → Answers text out m b → (n ≡ m) × (a ≡ b)
+of-answer text out n m a b p q =
+    cases (ltb (length out) room)
+    (λ t.
+    let h = ltb-true (length out) room t in
+    (one-answer 0 n m (p .0 h .0) (q .0 h .0), one-answer out a b (p .0 h .1) (q .0 h .1)))
+    (λ t.
+    let h = ltb-false (length out) room t in
+    (one-answer (length (answerText text)) n m (p .1 h .0) (q .1 h .0), one-answer (written out 0 (answerText text)) a b (p .1 h .1) (q .1 h .1)))

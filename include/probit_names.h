@@ -1,0 +1,42 @@
+/* Endings, reasons and statuses of probit.h in words, for a host's log. The statuses are those that an answer's text has.
+ * A number that has no name is "unknown". The strings last for the whole program; nothing is allocated. */
+#ifndef PROBIT_NAMES_H
+#define PROBIT_NAMES_H
+
+#include "probit.h"
+
+static inline const char *probit_ending_name(uint64_t ending) {
+    switch (ending) {
+    case PROBIT_ANSWERED: return "answered";
+    case PROBIT_INVALID_INPUT: return "invalid input";
+    case PROBIT_DOMAIN: return "domain";
+    case PROBIT_WORK_BUDGET: return "work budget";
+    case PROBIT_FORM: return "form";
+    default: return "unknown";
+    }
+}
+
+static inline const char *probit_reason_name(uint64_t reason) {
+    switch (reason) {
+    case PROBIT_NO_REASON: return "none";
+    case PROBIT_MODE_NOT_BRACKETED: return "mode not bracketed";
+    case PROBIT_MODE_NOT_CONVERGED: return "mode not converged";
+    case PROBIT_TAIL_NOT_BOUNDED: return "tail not bounded";
+    case PROBIT_NOT_FINITE: return "not finite";
+    case PROBIT_REFINEMENT_NOT_CONVERGED: return "refinement not converged";
+    default: return "unknown";
+    }
+}
+
+static inline const char *probit_status_name(uint64_t status) {
+    switch (status) {
+    case PROBIT_NO_STATUS: return "none";
+    case PROBIT_CONVERGED: return "converged";
+    case PROBIT_EVALUATION_LIMIT: return "evaluation-limit";
+    case PROBIT_ITERATION_LIMIT: return "iteration-limit";
+    case PROBIT_LINE_SEARCH_FAILED: return "line-search-failed";
+    default: return "unknown";
+    }
+}
+
+#endif
