@@ -9,3 +9,4 @@ pub mod Grid
 pub mod Middle
 pub mod Rounded
 pub mod Unique
+pub mod Examples

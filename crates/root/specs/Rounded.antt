@@ -13,7 +13,7 @@ use lib.Ieee.Bits.{ofBits-fits}
 use lib.Ieee.Exact.{HasValue}
 use Rattle.num.specs.F64.{bits, bitsOf}
 use Rattle.root.specs.Root.{units, Nearest, IsRoot}
-use Rattle.root.specs.Steps.{pencilOf, digits, power, rootBits, sqrtOf}
+use Rattle.root.specs.Steps.{pencilOf, digits, power, radicandOf, roundedOf, packedOf, rootBits, sqrtOf}
 use Rattle.root.specs.Pencil.{RootOf, pencil-law, pencil-ge, pencil-le}
 use Rattle.root.specs.Units.{units-is, plus-is, written, bits-read}
 use Rattle.root.specs.Digits.{Scaled, scaled, even-power}
@@ -25,26 +25,26 @@ use Rattle.root.specs.Middle.{lower, higher}
 scale : (m a : ℕ) → m * 2 ^ 54 * (2 ^ a * 2 ^ a) ≡ m * 2 ^ (54 + (a + a))
 scale m a = mul-assoc m (2 ^ 54) (2 ^ a * 2 ^ a) ∙ ap (λ (x : ℕ). m * x) (ap (λ (x : ℕ). 2 ^ 54 * x) (sym (pow-add 2 a a)) ∙ sym (pow-add 2 54 (a + a)))
 
-parts : (b : Bool) (d p : ℕ) → eqb (p % 2) 1 ≡ b → d * 2 ^ (p + 148) ≡ cond b (2 * d) d * 2 ^ (54 + (p / 2 + 47 + (p / 2 + 47)))
-parts true d p h =
-    let o = eqb-true (p % 2) 1 h in
-    let e : p + 148 ≡ suc (54 + (p / 2 + 47 + (p / 2 + 47))) = omega arith in
+parts : (b : Bool) (d p h : ℕ) → p / 2 ≡ suc (suc h) → eqb (p % 2) 1 ≡ b → d * 2 ^ (p + 50) ≡ cond b (2 * d) d * 2 ^ (54 + (h + h))
+parts true d p h half odd =
+    let o = eqb-true (p % 2) 1 odd in
+    let e : p + 50 ≡ suc (54 + (h + h)) = omega arith in
     ap (λ (x : ℕ). d * 2 ^ x) e ∙ ap (λ (x : ℕ). d * x) (pow-succ' 2 _) ∙ mul-left-comm d 2 _ ∙ sym (mul-assoc 2 d _)
-parts false d p h =
-    let o = eqb-false (p % 2) 1 h in
-    let e : p + 148 ≡ 54 + (p / 2 + 47 + (p / 2 + 47)) = omega arith in
+parts false d p h half odd =
+    let o = eqb-false (p % 2) 1 odd in
+    let e : p + 50 ≡ 54 + (h + h) = omega arith in
     ap (λ (x : ℕ). d * 2 ^ x) e
 
-exact : (n d p : ℕ) → n * 2 ^ 926 ≡ d * 2 ^ p → n * 2 ^ 1074 ≡ cond (eqb (p % 2) 1) (2 * d) d * 2 ^ 54 * (2 ^ (p / 2 + 47) * 2 ^ (p / 2 + 47))
-exact n d p h =
-    sym (mul-assoc n (2 ^ 926) (2 ^ 148))
-    ∙ ap (λ (x : ℕ). x * 2 ^ 148) h
-    ∙ mul-assoc d (2 ^ p) (2 ^ 148)
-    ∙ ap (λ (x : ℕ). d * x) (sym (pow-add 2 p 148))
-    ∙ parts (eqb (p % 2) 1) d p refl
-    ∙ sym (scale (cond (eqb (p % 2) 1) (2 * d) d) (p / 2 + 47))
+exact : (n d p h : ℕ) → p / 2 ≡ suc (suc h) → n * 2 ^ 1024 ≡ d * 2 ^ p → n * 2 ^ 1074 ≡ radicandOf d p * 2 ^ 54 * (2 ^ h * 2 ^ h)
+exact n d p h half same =
+    sym (mul-assoc n (2 ^ 1024) (2 ^ 50))
+    ∙ ap (λ (x : ℕ). x * 2 ^ 50) same
+    ∙ mul-assoc d (2 ^ p) (2 ^ 50)
+    ∙ ap (λ (x : ℕ). d * x) (sym (pow-add 2 p 50))
+    ∙ parts (eqb (p % 2) 1) d p h half refl
+    ∙ sym (scale (radicandOf d p) h)
 
-near-by : (x r : Float) (Q q h M : ℕ) → T (fits binary64 r) → HasValue r false (2 * q * 2 ^ h) (2 ^ 1074) → q ≡ (Q + 1) / 2 → RootOf M Q → M % 2 ≡ 0 → 2 ^ 53 ≤ Q → units x * 2 ^ 1074 ≡ M * (2 ^ h * 2 ^ h) → Nearest x r
+near-by : (x r : Float) (Q q h M : ℕ) → T (fits binary64 r) → HasValue r false (2 * q * 2 ^ h) (2 ^ 1074) → q ≡ roundedOf Q → RootOf M Q → M % 2 ≡ 0 → 2 ^ 53 ≤ Q → units x * 2 ^ 1074 ≡ M * (2 ^ h * 2 ^ h) → Nearest x r
 near-by x r Q q h M f v rounds at even full e =
     let u = units-is r (2 * q * 2 ^ h) v in
     let w : 2 ^ 52 ≤ q = omega arith in
@@ -55,31 +55,32 @@ near-by x r Q q h M f v rounds at even full e =
       below-higher = λ y a b l. rw (u, e) (higher Q q (2 ^ h) M (units y) rounds (pow-pos h) at even full (on-grid y q h a b w) (rw u at l));
     }
 
--- the result's bits: q under the exponent's field
-placed : (q h k : ℕ) → 2 ^ 52 ≤ q → q < 2 ^ 53 → k ≡ suc h → k < 2046 → HasValue (bits (q + k * 2 ^ 52)) false (2 * q * 2 ^ h) (2 ^ 1074)
+-- the result's bits: the field, then the digits of q without the first
+placed : (q h k : ℕ) → 2 ^ 52 ≤ q → q < 2 ^ 53 → k ≡ suc (suc h) → k < 2046 → HasValue (bits (packedOf k q)) false (2 * q * 2 ^ h) (2 ^ 1074)
 placed q h k l g e small =
-    let t = q - 2 ^ 52 in
-    let there : suc k * 2 ^ 52 + t ≡ q + k * 2 ^ 52 = omega arith in
+    let t = q % 2 ^ 52 in
     let lead : 2 ^ 52 + t ≡ q = omega arith in
-    let much : (2 ^ 52 + t) * 2 ^ k ≡ 2 * q * 2 ^ h = ap (λ (x : ℕ). x * 2 ^ k) lead ∙ ap (λ (x : ℕ). q * 2 ^ x) e ∙ ap (λ (x : ℕ). q * x) (pow-succ' 2 h) ∙ mul-left-comm q 2 (2 ^ h) ∙ sym (mul-assoc 2 q (2 ^ h)) in
-    subst (λ (v : ℕ). HasValue (bits (q + k * 2 ^ 52)) false v (2 ^ 1074)) much
-    (subst (λ (b : ℕ). HasValue (bits b) false ((2 ^ 52 + t) * 2 ^ k) (2 ^ 1074)) there (written k t small (omega arith)))
+    let much : (2 ^ 52 + t) * 2 ^ suc h ≡ 2 * q * 2 ^ h = ap (λ (x : ℕ). x * 2 ^ suc h) lead ∙ ap (λ (x : ℕ). q * x) (pow-succ' 2 h) ∙ mul-left-comm q 2 (2 ^ h) ∙ sym (mul-assoc 2 q (2 ^ h)) in
+    subst (λ (v : ℕ). HasValue (bits (packedOf k q)) false v (2 ^ 1074)) much
+    (subst (λ (f : ℕ). HasValue (bits (packedOf f q)) false ((2 ^ 52 + t) * 2 ^ suc h) (2 ^ 1074)) (sym e) (written (suc h) t (omega arith) (omega arith)))
 
 near : (x : Float) (d p : ℕ) → Scaled d p (units x) → Nearest x (bits (rootBits d p))
 near x d p s =
-    let m = cond (eqb (p % 2) 1) (2 * d) d in
+    let m = radicandOf d p in
     let Q = pencilOf m in
+    let h = p / 2 - 2 in
+    let half : p / 2 ≡ suc (suc h) = omega (arith, s .least) in
     let e = even-power (eqb (p % 2) 1) d (s .low) (s .high) in
     let few : m < 2 ^ 54 = omega (arith, e .1) in
     let full = pencil-ge m (e .0) few in
     let top = pencil-le m (e .1) in
-    near-by x (bits (rootBits d p)) Q ((Q + 1) / 2) (p / 2 + 47) (m * 2 ^ 54) (ofBits-fits binary64 (rootBits d p))
-    (placed ((Q + 1) / 2) (p / 2 + 47) (p / 2 + 48) (omega (arith, full)) (omega (arith, top)) (omega arith) (omega (arith, s .within)))
+    near-by x (bits (rootBits d p)) Q (roundedOf Q) h (m * 2 ^ 54) (ofBits-fits binary64 (rootBits d p))
+    (placed (roundedOf Q) h (p / 2) (omega (arith, full)) (omega (arith, top)) half (omega (arith, s .within)))
     refl
     (pencil-law m few)
     (omega arith)
     full
-    (exact (units x) d p (s .same))
+    (exact (units x) d p h half (s .same))
 
 no-number : sqrtOf nan ≡ nan
 unfolding sqrtOf lt ofBits ofFields odd

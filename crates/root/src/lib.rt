@@ -1,72 +1,22 @@
-// The square root of an f64, correctly rounded, one binary digit of the result a step.
+// The square root of an f64, correctly rounded, one binary digit of the result a step. docs/ROOT.md does it on paper.
+pub mod parts;
+pub mod pencil;
+
 ghost use mathlib.Core.Path.{_≡_};
-ghost use mathlib.Core.Bool.{cond};
-ghost use Prim.Native.Nat.{_^_, _<_};
+ghost use Prim.Native.Nat.{_<_};
 ghost use Rattle.root.specs.Root.{IsRoot};
-ghost use Rattle.root.specs.Steps.{pencilOf, digits, power, rootBits, sqrtOf};
-
-// A choice as a call leaves no place where ways meet, and no jump in the loop.
-fn choose(t: bool, a: u64, b: u64) -> u64
-    ensures { λ r. ⌜ r ≡ cond t a b ⌝ }
-{
-    if t { a } else { b }
-}
-
-// The trial or 0 is taken away, so that the difference never goes below 0.
-fn pencil(m: u64) -> u64
-    requires { ⌜ m < 2 ^ 54 ⌝ }
-    ensures { λ r. ⌜ r ≡ pencilOf m ⌝ }
-{
-    let mut coming = m;
-    let mut rest: u64 = 0;
-    let mut root: u64 = 0;
-    for k in 0..54u64 {
-        let brought = 4 * rest + coming / 0x10_0000_0000_0000;
-        let trial = 4 * root + 1;
-        let goes = trial <= brought;
-        let less = choose(goes, trial, 0);
-        let next = choose(goes, 2 * root + 1, 2 * root);
-        coming = coming % 0x10_0000_0000_0000 * 4;
-        rest = brought - less;
-        root = next;
-    }
-    root
-}
-
-// 11 is the count of leading zeros at 53 digits.
-fn digits_of(b: u64) -> u64
-    requires { ⌜ 0 < b ⌝ }
-    ensures { λ r. ⌜ r ≡ digits b ⌝ }
-{
-    if b / 0x10_0000_0000_0000 == 0 {
-        b << (u64::leading_zeros(b) - 11)
-    } else {
-        b % 0x10_0000_0000_0000 + 0x10_0000_0000_0000
-    }
-}
-
-fn power_of(b: u64) -> u64
-    requires { ⌜ 0 < b ⌝ }
-    ensures { λ r. ⌜ r ≡ power b ⌝ }
-{
-    if b / 0x10_0000_0000_0000 == 0 {
-        926 - (u64::leading_zeros(b) as u64 - 11)
-    } else {
-        b / 0x10_0000_0000_0000 + 925
-    }
-}
+ghost use Rattle.root.specs.Steps.{digits, power, rootBits, sqrtOf};
 
 fn root_bits(b: u64) -> u64
     requires { ⌜ 0 < b ⌝ }
     requires { ⌜ b < 0x7ff0_0000_0000_0000 ⌝ }
     ensures { λ r. ⌜ r ≡ rootBits (digits b) (power b) ⌝ }
 {
-    let m = digits_of(b);
-    let p = power_of(b);
-    let odd = p % 2 == 1;
-    let n = choose(odd, 2 * m, m);
-    let q = pencil(n);
-    (q + 1) / 2 + (p / 2 + 48) * 0x10_0000_0000_0000
+    let x = crate::parts::parts_of(b);
+    let m = crate::parts::radicand(x.digits, x.power);
+    let root = crate::pencil::root_of(m);
+    let kept = crate::parts::rounded(root);
+    crate::parts::packed(x.power / 2, kept)
 }
 
 // Only a positive finite x is taken to its bits; a zero is its own root.
