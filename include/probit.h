@@ -144,6 +144,10 @@ enum { PROBIT_SUMMARY_LITTERS, PROBIT_SUMMARY_AFFECTED, PROBIT_SUMMARY_PUPS, PRO
 uint64_t probit_summary(const uint32_t *litters, size_t litters_len, uint64_t *counts, size_t counts_len);
 
 /* ---- The text entry: the bytes that the program probitfit reads, and those that it prints (docs/FORMAT.md).
+ * A request begins
+ *   probit-request 1
+ *   mean 0 -8.0 8.0 0.0
+ * with each f64 in decimal, at most 17 digits, or as the 16 hexadecimal digits of its bits; an answer has the latter.
  *
  * The value is the length of the answer, which stands at the start of out, with no zero after it; the rest of out is left as it was.
  * Where out_len is below PROBIT_TEXT, the value is 0 and nothing is written. No answer of today has more than 300 bytes; the rest is room for

@@ -12,6 +12,10 @@ use qspquest_core::{Error, ErrorCode};
 use std::fmt::Write as _;
 use std::panic::{catch_unwind, AssertUnwindSafe};
 
+#[path = "number.rs"]
+mod number;
+pub use number::number;
+
 pub fn hex(x: f64) -> String {
     let bits = if x.is_nan() { 0x7ff8_0000_0000_0000 } else { x.to_bits() };
     format!("{bits:016x}")
@@ -29,13 +33,6 @@ fn count(word: &[u8]) -> Option<u32> {
     }
     let value = word.iter().fold(0u64, |v, c| 10 * v + u64::from(c - b'0'));
     u32::try_from(value).ok()
-}
-pub fn number(word: &[u8]) -> Option<f64> {
-    if word.len() != 16 || !word.iter().all(|c| matches!(c, b'0'..=b'9' | b'a'..=b'f')) {
-        return None;
-    }
-    let digit = |c: &u8| u64::from(if *c <= b'9' { c - b'0' } else { c - b'a' + 10 });
-    Some(f64::from_bits(word.iter().fold(0, |v, c| 16 * v + digit(c))))
 }
 /// What follows the head words; words stand apart by exactly one space.
 fn rest<'a, const N: usize>(line: &'a [u8], head: &[&str]) -> Option<[&'a [u8]; N]> {

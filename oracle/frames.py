@@ -5,6 +5,7 @@ import os
 import re
 import subprocess
 import sys
+from decimal import Decimal
 
 ROOT = os.path.dirname(os.path.dirname(os.path.abspath(__file__)))
 OURS = "target/oracle/oracle-ours"
@@ -96,6 +97,31 @@ def with_limit(text, limit):
     r = parse(text)
     r.work[2] = limit
     return r.text()
+
+
+def decimal(bits):
+    """The shortest decimal that is read as this f64, or its hexadecimal digits where that has more than seventeen digits or none is there."""
+    x = made.f64(bits)
+    if x - x != 0:
+        return f"{bits:016x}"
+    word = format(Decimal(repr(x)), "f")
+    word = word if "." in word else word + ".0"
+    return word if sum(c.isdigit() for c in word) <= 17 else f"{bits:016x}"
+
+
+def in_decimals(text):
+    """A request's text with its f64s in decimals; a text that is none as it is."""
+    r = parse(text)
+    if r is None:
+        return text
+    lines = text.split(b"\n")
+    for i, line in enumerate(lines):
+        words = line.split(b" ")
+        if words[0] in (b"mean", b"sd", b"tolerance"):
+            lines[i] = b" ".join(decimal(int(w, 16)).encode() if len(w) == 16 else w for w in words)
+    head = b"\n".join(lines[:7]) + b"\n"
+    lines[-2] = b"rows %d at %d" % (len(r.litters), len(head))
+    return b"\n".join(lines)
 
 
 def evaluations(answer):

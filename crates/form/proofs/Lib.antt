@@ -1,2 +1,3 @@
 pub mod ReadLaws
 pub mod TokenLaws
+pub mod ValueLaws

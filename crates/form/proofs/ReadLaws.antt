@@ -14,7 +14,8 @@ use Rattle.num.specs.Left.{left-one}
 use Rattle.form.specs.declared.token.Token.{Token}
 use Rattle.form.specs.declared.token.Token.the-variants.{Value, Departs}
 use Rattle.form.specs.Form.{isHole, holes}
-use Rattle.form.specs.Read.{Field, found, departs, readField, Reading, done, departsAt, kept, valueOf, lineAfter, feeds, read}
+use Rattle.form.specs.Field.{Field, found, departs}
+use Rattle.form.specs.Read.{readField, Reading, done, departsAt, kept, valueOf, lineAfter, feeds, read}
 use Rattle.form.specs.Says.{Says, inPlaces, valuesOf}
 use Rattle.form.specs.Departure.{kept-kept}
 use Rattle.form.proofs.TokenLaws.{inside, past}

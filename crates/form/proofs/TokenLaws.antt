@@ -10,7 +10,9 @@ use lib.Dec.{T, leb, lit<}
 use lib.ListN.{length, getD, drop, drop-of-length-le}
 use lib.Seq.{drop-cons}
 use borrow.Author.Tests.{eq-eqb, ne-eqb, lt-ltb, le-ltb, le-leb, lt-leb, leb-true, not-true, not-false}
-use Rattle.form.specs.Read.{isDigit, isHex, hexValue, found, departs, readHex, readMore, readCount, readByte, readField}
+use Rattle.form.specs.Field.{isDigit, isHex, hexValue, found, departs, readHex, readMore, readCount, readByte}
+use Rattle.form.specs.Decimal.{readValue}
+use Rattle.form.specs.Read.{readField}
 
 module _ (l : List ℕ) (i : ℕ) where
   pub inside : i < length l → drop i l ≡ getD l i 0 ∷ drop (i + 1) l
@@ -127,7 +129,7 @@ module _ (s : List ℕ) (c : ℕ) where
   unfolding readField
   field-count e = rw (eq-eqb c 35 e)
 
-  pub field-bits : (c ≡ 35 → ⊥) → c ≡ 37 → readField c s ≡ readHex 16 0 s
+  pub field-bits : (c ≡ 35 → ⊥) → c ≡ 37 → readField c s ≡ readValue s
   unfolding readField
   field-bits a e = rw (ne-eqb c 35 a, eq-eqb c 37 e)
 

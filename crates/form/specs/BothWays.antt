@@ -1,21 +1,25 @@
--- Reading and rendering by a form are inverse: what is rendered is read back, and what is read is a rendering.
+-- Reading by a form and spelling it are inverse: what is spelled is read back, and what is read is spelled. A rendering is a spelling, and of counts alone the only one.
 use mathlib.Core.Path.{_≡_, refl, sym, ap, _∙_}
 use mathlib.Core.Logic.{_≢_}
-use mathlib.Core.Bool.{Bool, true, false, cond, _&&_, _||_, not, true≢false}
+use mathlib.Core.Bool.{Bool, true, false, cond, _&&_, _||_, not}
 use mathlib.Core.List.{List, [], _∷_, _++_, append-assoc}
-use Prim.Native.Nat.{ℕ, zero, suc, _/_, _^_, _≤_, _<_}
-use native.Mathlib.Nat.{div-eq-of-lt, add-le-add, le-of-eq, le-of-suc-le-suc, not-suc-le-zero}
+use Prim.Native.Nat.{ℕ, zero, suc, _+_, _≤_, _<_}
+use native.Mathlib.Nat.{le-of-suc-le-suc, not-suc-le-zero}
 use native.Mathlib.Omega.{arith}
 use borrow.Author.Tests.{eqb-true, eq-eqb}
 use borrow.Table.Steps.{cases}
 use lib.Dec.{T, ltb, eqb, lit≤}
 use lib.Ieee.Fits.{and-l, and-r}
 use lib.ListN.{length, length-append, getD}
-use Rattle.form.specs.Digits.{places, hex}
+use Rattle.form.specs.Digits.{places, decimal, hex}
 use Rattle.form.specs.Form.{first, isCount, isBits, isHole, piece, valuesAfter, render, holes}
-use Rattle.form.specs.Read.{isDigit, Field, found, departs, readHex, readByte, readField, Reading, done, departsAt, kept, valueOf, lineAfter, readNext, read}
-use Rattle.form.specs.Sound.{endsCount, sound, limitOf, limits, Below, Holds, mostOf, most}
-use Rattle.form.specs.DigitLaws.{not-found, hex-read-back, hex-read-is, digits-many, places-least, decimal-most, count-read-back, count-read-is}
+use Rattle.form.specs.Field.{isDigit, Field, found, departs, readCount, readByte}
+use Rattle.form.specs.Decimal.{readValue}
+use Rattle.form.specs.Read.{readField, Reading, done, departsAt, kept, valueOf, lineAfter, readNext, read}
+use Rattle.form.specs.Sound.{endsHole, sound, plain, limitOf, limits, Below, Holds, most}
+use Rattle.form.specs.DigitLaws.{not-found, digits-many, places-least, decimal-most, count-read-back, count-read-is}
+use Rattle.form.specs.Spells.{in-hex, Spells, ended, a-count, a-number, a-byte}
+use Rattle.form.specs.SpellingLaws.{number-read-back, number-read-is, number-below, number-many}
 
 -- ---- the three kinds of byte in a form
 
@@ -33,12 +37,7 @@ kind c =
 pub not-done : (k : ℕ) (vs t : List ℕ) → departsAt k ≡ done vs t → ⊥
 not-done k vs t e = let z : _≡_ {A = ℕ} 0 1 = cc in omega arith
 
--- ---- what is read at one byte of a form
-
-pub record ReadIs (c : ℕ) (s : List ℕ) (v : ℕ) (t us : List ℕ) : Type 0 where
-  pub text : s ≡ piece c (valueOf c v ++ us) ++ t
-  pub rest : valuesAfter c (valueOf c v ++ us) ≡ us
-  pub fits : (ls : List ℕ) → Below ls us → Below (limitOf c ++ ls) (valueOf c v ++ us)
+-- ---- what is read is spelled
 
 byte-read-is : (c : ℕ) (s : List ℕ) (v : ℕ) (t : List ℕ) → readByte c s ≡ found v t → s ≡ c ∷ t
 unfolding readByte
@@ -49,23 +48,6 @@ byte-read-is c (d ∷ s) v t e =
     let r : s ≡ t = cc (rw b at e) in
     rw (eqb-true d c b, r))
     (λ b. absurd (not-found v t (rw b at e)))
-
-pub field-read-is : {c : ℕ} → Kind c → (s : List ℕ) (v : ℕ) (t us : List ℕ) → readField c s ≡ found v t → ReadIs c s v t us
-unfolding readField
-field-read-is count s v t us e = let r = count-read-is s v t e in record { text = r .0; rest = refl; fits = λ ls b. (r .1, b) }
-field-read-is bits s v t us e = let r = hex-read-is 16 0 s v t e in record { text = r .0; rest = refl; fits = λ ls b. (omega (arith, r .1), b) }
-field-read-is (itself {c = c} p q) s v t us e = record { text = byte-read-is c s v t (rw (p, q) at e) ∙ rw (p, q); rest = rw (p, q); fits = λ ls b. rw (p, q) b }
-
--- what a sound form says of its first byte and of the rest
-pub record Sound (c : ℕ) (f : List ℕ) : Type 0 where
-  pub ends : T (not (isCount c) || endsCount (first f))
-  pub rest : T (sound f)
-
-pub sound-parts : (c : ℕ) (f : List ℕ) → T (sound (c ∷ f)) → Sound c f
-unfolding sound
-sound-parts c f h =
-    let e = not (isCount c) || endsCount (first f) in
-    record { ends = and-l e (sound f) h; rest = and-r e (sound f) h }
 
 -- a form is read by its first byte, and then by the rest
 pub record Step (c : ℕ) (f : List ℕ) (line : ℕ) (s vs t : List ℕ) : Type 0 where
@@ -88,72 +70,146 @@ step c f line s vs t e = by-field (readField c s) refl e
     by-field (found v s') e₁ e₂ = by-rest v s' (read f (lineAfter c line) s') e₁ refl e₂
     by-field departs e₁ e₂ = absurd (not-done line vs t e₂)
 
--- What is read is a rendering: of the values that are read, which fit the form.
-pub rendered-read : (f s vs t : List ℕ) (line : ℕ) → T (sound f) → read f line s ≡ done vs t → (s ≡ render f vs ++ t) × Holds f vs
-unfolding read render limits
-rendered-read [] s vs t line h e = let n : [] ≡ vs = cc in (cc, rw (← n) tt)
-rendered-read (c ∷ f) s vs t line h e =
-    let p = sound-parts c f h in
+-- s is a spelling of the form f with the values vs, and then t
+pub record SpelledThen (f vs t s : List ℕ) : Type 0 where
+  pub spelled : List ℕ
+  pub spells : Spells f vs spelled
+  pub text : s ≡ spelled ++ t
+
+put : {c : ℕ} → Kind c → (f s s' us vs t : List ℕ) (v : ℕ) → readField c s ≡ found v s' → valueOf c v ++ us ≡ vs → SpelledThen f us t s' → SpelledThen (c ∷ f) vs t s
+unfolding readField
+put count f s s' us vs t v e q h =
+    let r = count-read-is s v s' e in
+    record { spelled = decimal v ++ h .spelled; spells = rw (← q) (a-count v (r .1) refl (h .spells)); text = r .0 ∙ ap (λ x. decimal v ++ x) (h .text) ∙ sym (append-assoc (decimal v) (h .spelled) t) }
+put bits f s s' us vs t v e q h =
+    let r = number-read-is s v s' e in
+    record { spelled = r .spelled ++ h .spelled; spells = rw (← q) (a-number v (r .spelled) (r .spelling) refl (h .spells)); text = r .text ∙ ap (λ x. r .spelled ++ x) (h .text) ∙ sym (append-assoc (r .spelled) (h .spelled) t) }
+put (itself {c = c} a b) f s s' us vs t v e q h =
+    let w : us ≡ vs = rw (a, b) at q in
+    record { spelled = c ∷ h .spelled; spells = rw (← w) (a-byte c a b refl (h .spells)); text = byte-read-is c s v s' (rw (a, b) at e) ∙ ap (λ x. c ∷ x) (h .text) }
+
+-- What is read is a spelling of the form with the values that are read.
+pub spelled-read : (f s vs t : List ℕ) (line : ℕ) → read f line s ≡ done vs t → SpelledThen f vs t s
+unfolding read
+spelled-read [] s vs t line e =
+    let a : [] ≡ vs = cc in
+    record { spelled = []; spells = rw (← a) ended; text = cc }
+spelled-read (c ∷ f) s vs t line e =
     let x = step c f line s vs t e in
-    let r = rendered-read f (x .s') (x .us) t (lineAfter c line) (p .rest) (x .rest) in
-    put (x .v) (x .s') (x .us) (x .values) (field-read-is (kind c) s (x .v) (x .s') (x .us) (x .here)) (r .0) (r .1)
-  where
-    put : (v : ℕ) (s' us : List ℕ) → valueOf c v ++ us ≡ vs → ReadIs c s v s' us → s' ≡ render f us ++ t → Holds f us → (s ≡ render (c ∷ f) vs ++ t) × Holds (c ∷ f) vs
-    put v s' us e r q b = rw (← e, r .rest) (r .text ∙ ap (λ x. piece c (valueOf c v ++ us) ++ x) q ∙ sym (append-assoc (piece c (valueOf c v ++ us)) (render f us) t), r .fits (limits f) b)
+    put (kind c) f s (x .s') (x .us) vs t (x .v) (x .here) (x .values) (spelled-read f (x .s') (x .us) t (lineAfter c line) (x .rest))
 
--- ---- what is rendered at one byte of a form
+-- ---- what is spelled is read back
 
-pub record ReadBack (c : ℕ) (vs t ls : List ℕ) : Type 0 where
-  pub v : ℕ
-  pub here : readField c (piece c vs ++ t) ≡ found v t
-  pub values : valueOf c v ++ valuesAfter c vs ≡ vs
-  pub rest : Below ls (valuesAfter c vs)
+-- what a sound form says of its first byte and of the rest
+pub record Sound (c : ℕ) (f : List ℕ) : Type 0 where
+  pub ends : T (not (isHole c) || endsHole (first f))
+  pub rest : T (sound f)
 
-pub field-read-back : {c : ℕ} → Kind c → (vs t ls : List ℕ) → Below (limitOf c ++ ls) vs → (isCount c ≡ true → isDigit (first t) ≡ false) → ReadBack c vs t ls
-unfolding readField readByte
-field-read-back count [] t ls b q = absurd b
-field-read-back count (v ∷ vs) t ls b q = record { v = v; here = count-read-back v t (b .0) (q refl); values = refl; rest = b .1 }
-field-read-back bits [] t ls b q = absurd b
-field-read-back bits (v ∷ vs) t ls b q =
-    let z : v / 16 ^ 16 ≡ 0 = div-eq-of-lt (b .0) in
-    record { v = v; here = ap (λ x. readHex 16 x (hex v ++ t)) (sym z) ∙ hex-read-back 16 v t; values = refl; rest = b .1 }
-field-read-back (itself {c = c} p q) vs t ls b n =
-    let e = eq-eqb c c refl in
-    record { v = 0; here = rw (p, q, e); values = rw (p, q); rest = rw (p, q) (rw (p, q) at b) }
+pub sound-parts : (c : ℕ) (f : List ℕ) → T (sound (c ∷ f)) → Sound c f
+unfolding sound
+sound-parts c f h =
+    let e = not (isHole c) || endsHole (first f) in
+    record { ends = and-l e (sound f) h; rest = and-r e (sound f) h }
 
 failed : (b : Bool) → T (not b) → b ≡ false
 failed true h = absurd h
 failed false h = refl
 
-piece-itself : {c : ℕ} → Kind c → (vs : List ℕ) → isHole c ≡ false → piece c vs ≡ c ∷ []
-piece-itself count vs h = absurd (true≢false h)
-piece-itself bits vs h = absurd (true≢false h)
-piece-itself (itself p q) vs h = rw (p, q)
+-- a byte that ends a hole
+record Ends (c : ℕ) : Type 0 where
+  no-digit : isDigit c ≡ false
+  no-point : eqb c 46 ≡ false
 
--- where a count ends, no digit follows
-no-digit : (c : ℕ) (f us t : List ℕ) → T (not (isCount c) || endsCount (first f)) → isCount c ≡ true → isDigit (first (render f us ++ t)) ≡ false
-unfolding render
-no-digit c [] us t h e = absurd (rw e at h)
-no-digit c (d ∷ f) us t h e =
-    let g = rw e at h in
-    let n = failed (isDigit d) (and-r (ltb 0 d) (not (isDigit d)) (and-l (ltb 0 d && not (isDigit d)) (not (isHole d)) g)) in
-    let i = failed (isHole d) (and-r (ltb 0 d && not (isDigit d)) (not (isHole d)) g) in
-    rw (piece-itself (kind d) us i) n
+ends-hole : (c : ℕ) → T (endsHole c) → Ends c
+ends-hole c h =
+    let a = ltb 0 c && not (isDigit c) in
+    let p = not (eqb c 46) in
+    let abp = and-l (a && p) (not (isHole c)) h in
+    record { no-digit = failed (isDigit c) (and-r (ltb 0 c) (not (isDigit c)) (and-l a p abp)); no-point = failed (eqb c 46) (and-r a p abp) }
 
--- What is rendered is read back, whatever follows it.
+-- the text goes on with the form's byte
+goes-on : {f vs s : List ℕ} → Spells f vs s → T (endsHole (first f)) → (t : List ℕ) → first (s ++ t) ≡ first f
+goes-on ended h t = absurd h
+goes-on (a-count n b e k) h t = absurd h
+goes-on (a-number v q b e k) h t = absurd h
+goes-on (a-byte c a b e k) h t = ap (λ x. first (x ++ t)) e
+
+follows : {f vs s : List ℕ} → Spells f vs s → T (endsHole (first f)) → (t : List ℕ) → Ends (first (s ++ t))
+follows {f = f} k h t = rw (goes-on k h t) (ends-hole (first f) h)
+
+hole-ends : (c : ℕ) (f : List ℕ) → isHole c ≡ true → T (sound (c ∷ f)) → T (endsHole (first f))
+hole-ends c f e h = rw e at (sound-parts c f h .ends)
+
+next : (c : ℕ) (f : List ℕ) (line v : ℕ) (s s' us t : List ℕ) → readField c s ≡ found v s' → read f (lineAfter c line) s' ≡ done us t → read (c ∷ f) line s ≡ done (valueOf c v ++ us) t
+unfolding read
+next c f line v s s' us t e r = rw (e, r) refl
+
+no-hole : (c : ℕ) → isCount c ≡ false → isBits c ≡ false → isHole c ≡ false
+no-hole c a b = rw (a, b) refl
+
+-- the first part of a spelling, and the rest with what follows
+split-off : (p a s t : List ℕ) → p ≡ a ++ s → p ++ t ≡ a ++ (s ++ t)
+split-off p a s t e = ap (λ x. x ++ t) e ∙ append-assoc a s t
+
+-- What spells a sound form is read back, whatever follows it.
+pub read-spelled : {f vs s : List ℕ} (line : ℕ) (t : List ℕ) → T (sound f) → Spells f vs s → read f line (s ++ t) ≡ done vs t
+unfolding read readField readByte
+read-spelled line t h ended = refl
+read-spelled line t h (a-count {f = f} {vs = vs} {s = s} {p = p} n b e k) =
+    let a = follows k (hole-ends 35 f refl h) t in
+    next 35 f line n (p ++ t) (s ++ t) vs t (ap readCount (split-off p (decimal n) s t e) ∙ count-read-back n (s ++ t) b (a .no-digit)) (read-spelled (lineAfter 35 line) t (sound-parts 35 f h .rest) k)
+read-spelled line t h (a-number {f = f} {vs = vs} {s = s} {p = p} v q b e k) =
+    let a = follows k (hole-ends 37 f refl h) t in
+    next 37 f line v (p ++ t) (s ++ t) vs t (ap readValue (split-off p q s t e) ∙ number-read-back v q (s ++ t) b (a .no-digit) (a .no-point)) (read-spelled (lineAfter 37 line) t (sound-parts 37 f h .rest) k)
+read-spelled line t h (a-byte {f = f} {vs = vs} {s = s} {p = p} c a b e k) =
+    let here : readField c (p ++ t) ≡ found 0 (s ++ t) = rw (a, b, e, eq-eqb c c refl) refl in
+    let r = next c f line 0 (p ++ t) (s ++ t) vs t here (read-spelled (lineAfter c line) t (sound-parts c f h .rest) k) in
+    rw (no-hole c a b) at r
+
+-- where the reading departs, no spelling of the form stands
+pub not-there : (f s vs p t : List ℕ) (line k : ℕ) → T (sound f) → read f line s ≡ departsAt k → Spells f vs p → s ≢ p ++ t
+not-there f s vs p t line k h e b q = not-done k vs t (sym e ∙ rw q (read-spelled line t h b))
+
+-- ---- a rendering is a spelling
+
+piece-spells : {c : ℕ} → Kind c → (f vs s : List ℕ) → Holds (c ∷ f) vs → (Holds f (valuesAfter c vs) → Spells f (valuesAfter c vs) s) → Spells (c ∷ f) vs (piece c vs ++ s)
+unfolding limits
+piece-spells count f [] s b h = absurd b
+piece-spells count f (v ∷ vs) s b h = a-count v (b .0) refl (h (b .1))
+piece-spells bits f [] s b h = absurd b
+piece-spells bits f (v ∷ vs) s b h = a-number v (hex v) (in-hex (b .0) refl) refl (h (b .1))
+piece-spells (itself {c = c} p q) f vs s b h = rw (p, q) (a-byte c p q refl (rw (p, q) at (h (rw (p, q) (rw (p, q) at b)))))
+
+pub render-spells : (f vs : List ℕ) → Holds f vs → Spells f vs (render f vs)
+unfolding render limits
+render-spells [] [] b = ended
+render-spells [] (v ∷ vs) b = absurd b
+render-spells (c ∷ f) vs b = piece-spells (kind c) f vs (render f (valuesAfter c vs)) b (render-spells f (valuesAfter c vs))
+
 pub read-rendered : (f vs t : List ℕ) (line : ℕ) → T (sound f) → Holds f vs → read f line (render f vs ++ t) ≡ done vs t
-unfolding read render limits
-read-rendered [] [] t line h b = refl
-read-rendered [] (v ∷ vs) t line h b = absurd b
-read-rendered (c ∷ f) vs t line h b =
-    let p = sound-parts c f h in
-    let r = field-read-back (kind c) vs (render f (valuesAfter c vs) ++ t) (limits f) b (no-digit c f (valuesAfter c vs) t (p .ends)) in
-    let ih = read-rendered f (valuesAfter c vs) t (lineAfter c line) (p .rest) (r .rest) in
-    rw (append-assoc (piece c vs) (render f (valuesAfter c vs)) t, r .here, ih, r .values)
+read-rendered f vs t line h b = read-spelled line t h (render-spells f vs b)
 
--- where the reading departs, no rendering of the form stands
-pub not-there : (f s vs t : List ℕ) (line k : ℕ) → T (sound f) → read f line s ≡ departsAt k → Holds f vs → s ≢ render f vs ++ t
-not-there f s vs t line k h e b q = not-done k vs t (sym e ∙ rw q (read-rendered f vs t line h b))
+pub not-rendered : (f s vs t : List ℕ) (line k : ℕ) → T (sound f) → read f line s ≡ departsAt k → Holds f vs → s ≢ render f vs ++ t
+not-rendered f s vs t line k h e b = not-there f s vs (render f vs) t line k h e (render-spells f vs b)
+
+-- the values of a spelling fit its form
+pub spells-holds : {f vs s : List ℕ} → Spells f vs s → Holds f vs
+unfolding limits
+spells-holds ended = tt
+spells-holds (a-count n b e k) = (b, spells-holds k)
+spells-holds (a-number v q b e k) = (number-below v q b, spells-holds k)
+spells-holds (a-byte c a b e k) = rw (a, b) (spells-holds k)
+
+-- a form of counts alone is spelled by its rendering
+pub plain-spells : {f vs s : List ℕ} → T (plain f) → Spells f vs s → s ≡ render f vs
+unfolding plain render
+plain-spells h ended = refl
+plain-spells h (a-count {f = f} n b e k) = e ∙ ap (λ x. decimal n ++ x) (plain-spells h k)
+plain-spells h (a-number v q b e k) = absurd h
+plain-spells h (a-byte {f = f} c a b e k) = rw (a, b) (e ∙ ap (λ x. c ∷ x) (plain-spells (and-r (not (isBits c)) (plain f) h) k))
+
+pub rendered-read : (f s vs t : List ℕ) (line : ℕ) → T (plain f) → read f line s ≡ done vs t → (s ≡ render f vs ++ t) × Holds f vs
+rendered-read f s vs t line h e = let r = spelled-read f s vs t line e in (r .text ∙ ap (λ x. x ++ t) (plain-spells h (r .spells)), spells-holds (r .spells))
 
 -- ---- what the values are
 
@@ -188,32 +244,18 @@ holds-many f vs b = below-many (limits f) vs b ∙ limits-many f
 pub holds-below : (f vs : List ℕ) (i : ℕ) → Holds f vs → i < holes f → getD vs i 0 < getD (limits f) i 0
 holds-below f vs i b h = below-at (limits f) vs i b (rw (limits-many f) h)
 
-pub read-below : (f s vs t : List ℕ) (line i : ℕ) → T (sound f) → read f line s ≡ done vs t → i < holes f → getD vs i 0 < getD (limits f) i 0
-read-below f s vs t line i h e b = holds-below f vs i (rendered-read f s vs t line h e .1) b
+-- ---- how long a spelling is
 
--- ---- how long a rendering is
-
-piece-most : {c : ℕ} → Kind c → (vs ls : List ℕ) → Below (limitOf c ++ ls) vs → (length (piece c vs) ≤ mostOf c) × Below ls (valuesAfter c vs)
-piece-most count [] ls b = absurd b
-piece-most count (v ∷ vs) ls b = (decimal-most v (b .0), b .1)
-piece-most bits [] ls b = absurd b
-piece-most bits (v ∷ vs) ls b = (le-of-eq (digits-many 16 16 v), b .1)
-piece-most (itself p q) vs ls b = rw (p, q) (lit≤ tt, rw (p, q) at b)
-
-pub render-most : (f vs : List ℕ) → Holds f vs → length (render f vs) ≤ most f
-unfolding render most limits
-render-most [] vs b = lit≤ tt
-render-most (c ∷ f) vs b =
-    let p = piece-most (kind c) vs (limits f) b in
-    rw (length-append (piece c vs) (render f (valuesAfter c vs))) (add-le-add (p .0) (render-most f (valuesAfter c vs) (p .1)))
-
-piece-least : {c : ℕ} → Kind c → (vs : List ℕ) → 1 ≤ length (piece c vs)
-piece-least count vs = rw (digits-many 10 (places (first vs)) (first vs)) (places-least 19 (first vs))
-piece-least bits vs = rw (digits-many 16 16 (first vs)) (lit≤ tt)
-piece-least (itself p q) vs = rw (p, q) (lit≤ tt)
+pub spells-most : {f vs s : List ℕ} → Spells f vs s → length s ≤ most f
+unfolding most
+spells-most ended = lit≤ tt
+spells-most (a-count {s = s} n b e k) = let i = spells-most k in rw (e, length-append (decimal n) s) (omega (arith, decimal-most n b))
+spells-most (a-number {s = s} v q b e k) = let i = spells-most k in rw (e, length-append q s) (omega (arith, number-many v q b .1))
+spells-most (a-byte c a b e k) = let i = spells-most k in rw (a, b, e) (omega arith)
 
 -- no shorter than the form
-pub render-least : (f vs : List ℕ) → length f ≤ length (render f vs)
-unfolding render
-render-least [] vs = lit≤ tt
-render-least (c ∷ f) vs = rw (length-append (piece c vs) (render f (valuesAfter c vs))) (omega (arith, piece-least (kind c) vs, render-least f (valuesAfter c vs)))
+pub spells-least : {f vs s : List ℕ} → Spells f vs s → length f ≤ length s
+spells-least ended = lit≤ tt
+spells-least (a-count {s = s} n b e k) = let i = spells-least k in rw (e, length-append (decimal n) s, digits-many 10 (places n) n) (omega (arith, places-least 19 n))
+spells-least (a-number {s = s} v q b e k) = let i = spells-least k in rw (e, length-append q s) (omega (arith, number-many v q b .0))
+spells-least (a-byte c a b e k) = let i = spells-least k in rw e (omega arith)

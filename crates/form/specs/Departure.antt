@@ -1,4 +1,4 @@
--- The line at which a text departs from a form: the form's lines before it stand in the text, and the form's line does not.
+-- The line at which a text departs from a form: the form's lines before it are spelled in the text, and the form's line is not.
 use mathlib.Core.Path.{_≡_, refl, sym, ap, _∙_}
 use mathlib.Core.Logic.{_≢_}
 use mathlib.Core.Bool.{cond, _||_, not}
@@ -11,10 +11,12 @@ use borrow.Table.Steps.{cases}
 use lib.Dec.{T, eqb, lit≤}
 use lib.Ieee.Fits.{and-i}
 use lib.ListN.{length}
-use Rattle.form.specs.Form.{first, isCount, render}
-use Rattle.form.specs.Read.{Field, found, departs, readField, Reading, done, departsAt, kept, valueOf, lineAfter, readNext, read}
-use Rattle.form.specs.Sound.{endsCount, sound, Holds}
-use Rattle.form.specs.BothWays.{sound-parts, not-done, not-there, rendered-read, read-rendered}
+use Rattle.form.specs.Form.{first, isHole}
+use Rattle.form.specs.Field.{Field, found, departs}
+use Rattle.form.specs.Read.{readField, Reading, done, departsAt, kept, valueOf, lineAfter, readNext, read}
+use Rattle.form.specs.Sound.{endsHole, sound}
+use Rattle.form.specs.Spells.{Spells}
+use Rattle.form.specs.BothWays.{sound-parts, not-done, not-there, spelled-read, read-spelled}
 
 -- a form's first line with its LF, and the lines after it
 abbrev pub firstLine : List ℕ → List ℕ
@@ -27,8 +29,8 @@ otherLines (c ∷ f) = cond (eqb c 10) f (otherLines f)
 
 -- The text s departs from the form f at line k, where `line` is the number of the line at which s starts.
 pub data Departs : List ℕ → ℕ → List ℕ → ℕ → Type 0 where
-  here : {f : List ℕ} {line : ℕ} {s : List ℕ} → ((vs t : List ℕ) → Holds (firstLine f) vs → s ≢ render (firstLine f) vs ++ t) → Departs f line s line
-  later : {f : List ℕ} {line : ℕ} {s : List ℕ} {k : ℕ} (vs t : List ℕ) → Holds (firstLine f) vs → s ≡ render (firstLine f) vs ++ t → Departs (otherLines f) (line + 1) t k → Departs f line s k
+  here : {f : List ℕ} {line : ℕ} {s : List ℕ} → ((vs p t : List ℕ) → Spells (firstLine f) vs p → s ≢ p ++ t) → Departs f line s line
+  later : {f : List ℕ} {line : ℕ} {s : List ℕ} {k : ℕ} (vs p t : List ℕ) → Spells (firstLine f) vs p → s ≡ p ++ t → Departs (otherLines f) (line + 1) t k → Departs f line s k
 
 -- ---- reading line by line
 
@@ -85,7 +87,7 @@ lines-sound (c ∷ f) h =
     let r = lines-sound f (p .rest) in
     cases (eqb c 10)
     (λ b. rw (b, eqb-true c 10 b) (tt, p .rest))
-    (λ b. rw (b, first-same f) (and-i (not (isCount c) || endsCount (first f)) (sound (firstLine f)) (p .ends) (r .0), r .1))
+    (λ b. rw (b, first-same f) (and-i (not (isHole c) || endsHole (first f)) (sound (firstLine f)) (p .ends) (r .0), r .1))
 
 others-shorter : (c : ℕ) (f : List ℕ) → length (otherLines (c ∷ f)) ≤ length f
 others-shorter c [] = cases (eqb c 10) (λ b. rw b (lit≤ tt)) (λ b. rw b (lit≤ tt))
@@ -96,10 +98,10 @@ others-shorter c (d ∷ f) = cases (eqb c 10) (λ b. rw b (le-refl _)) (λ b. rw
 by-first : (f s : List ℕ) (line k : ℕ) (r : Reading) → T (sound f) → ((t : List ℕ) → read (otherLines f) (line + 1) t ≡ departsAt k → Departs (otherLines f) (line + 1) t k) → read (firstLine f) line s ≡ r → goOn r (read (otherLines f) (line + 1)) ≡ departsAt k → Departs f line s k
 by-first f s line k (departsAt j) h go e₁ e₂ =
     let z : line ≡ k = in-line f line k s (e₁ ∙ e₂) in
-    rw (← z) (here (λ vs t b. not-there (firstLine f) s vs t line j (lines-sound f h .0) e₁ b))
+    rw (← z) (here (λ vs p t. not-there (firstLine f) s vs p t line j (lines-sound f h .0) e₁))
 by-first f s line k (done vs t) h go e₁ e₂ =
-    let r = rendered-read (firstLine f) s vs t line (lines-sound f h .0) e₁ in
-    later vs t (r .1) (r .0) (go t (kept-departs vs (read (otherLines f) (line + 1) t) k e₂))
+    let r = spelled-read (firstLine f) s vs t line e₁ in
+    later vs (r .spelled) t (r .spells) (r .text) (go t (kept-departs vs (read (otherLines f) (line + 1) t) k e₂))
 
 departs-in : (n : ℕ) (f s : List ℕ) (line k : ℕ) → length f ≤ n → T (sound f) → read f line s ≡ departsAt k → Departs f line s k
 unfolding read
@@ -119,9 +121,9 @@ there-departs h (here {f = f} {line = line} {s = s} w) = rw (by-lines f line s) 
   where
     go : (r : Reading) → read (firstLine f) line s ≡ r → goOn r (read (otherLines f) (line + 1)) ≡ departsAt line
     go (departsAt j) e = ap departsAt (sym (in-line f line j s e))
-    go (done vs t) e = let r = rendered-read (firstLine f) s vs t line (lines-sound f h .0) e in absurd (w vs t (r .1) (r .0))
-there-departs h (later {f = f} {line = line} {s = s} {k = k} vs t b q d) =
-    rw (by-lines f line s, q, read-rendered (firstLine f) vs t line (lines-sound f h .0) b, there-departs (lines-sound f h .1) d)
+    go (done vs t) e = let r = spelled-read (firstLine f) s vs t line e in absurd (w vs (r .spelled) t (r .spells) (r .text))
+there-departs h (later {f = f} {line = line} {s = s} {k = k} vs p t b q d) =
+    rw (by-lines f line s, q, read-spelled line t (lines-sound f h .0) b, there-departs (lines-sound f h .1) d)
 
 -- there is one
 pub one-line : (f s : List ℕ) (line j k : ℕ) → T (sound f) → Departs f line s j → Departs f line s k → j ≡ k

@@ -13,7 +13,7 @@ use lib.Dec.{leb, ltb, eqb, lit≤}
 use lib.ListN.{length}
 use Rattle.form.specs.Digits.{glyph, digits, placesFrom, decimal}
 use Rattle.form.specs.Form.{first, after}
-use Rattle.form.specs.Read.{isDigit, isHex, hexValue, found, departs, readHex, readMore, readCount}
+use Rattle.form.specs.Field.{isDigit, isHex, hexValue, found, departs, readHex, readMore, readCount}
 
 -- ---- one digit
 
@@ -69,14 +69,14 @@ not-found n t e = let z : _≡_ {A = ℕ} 0 1 = cc in omega arith
 one-more : (b k n : ℕ) → n / b ^ suc k ≡ n / b ^ k / b
 one-more b k n = rw (pow-suc b k, div-div-eq-div-mul n (b ^ k) b)
 
-next-digit : (b k n : ℕ) → b * (n / b ^ suc k) + n / b ^ k % b ≡ n / b ^ k
+pub next-digit : (b k n : ℕ) → b * (n / b ^ suc k) + n / b ^ k % b ≡ n / b ^ k
 next-digit b k n = rw (one-more b k n) (div-add-mod (n / b ^ k) b)
 
 -- the same from the other end: n without its last digit
 drop-last : (b k n : ℕ) → n / b ^ suc k ≡ n / b / b ^ k
 drop-last b k n = rw (pow-succ' b k, div-div-eq-div-mul n b (b ^ k))
 
-digit-in-front :
+pub digit-in-front :
     (b k n v d c : ℕ) (s t : List ℕ) → d < b → glyph d ≡ c → n / b ^ k ≡ b * v + d → s ≡ digits b k n ++ t → (c ∷ s ≡ digits b (suc k) n ++ t) × (n / b ^ suc k ≡ v)
 unfolding digits
 digit-in-front b k n v d c s t h g e q =

@@ -1,8 +1,12 @@
 pub mod Digits
 pub mod Form
+pub mod Field
+pub mod Decimal
 pub mod Read
 pub mod Says
 pub mod DigitLaws
+pub mod Spells
+pub mod SpellingLaws
 pub mod Sound
 pub mod BothWays
 pub mod Said

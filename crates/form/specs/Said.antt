@@ -1,4 +1,4 @@
--- What a caller learns of an answer by a sound form: the reading, from the place and the values that it gives.
+-- What a caller learns of an answer by a form: the reading, from the place and the values that it gives.
 use mathlib.Core.Path.{_≡_, refl, sym, ap, _∙_}
 use mathlib.Core.List.{List}
 use Prim.Native.Nat.{ℕ, _+_, _-_, _≤_, zero-le}
@@ -6,15 +6,14 @@ use native.Mathlib.Nat.{sub-zero}
 use native.Mathlib.Omega.{arith}
 use borrow.Author.Tests.{leb-true, leb-false}
 use borrow.Table.Steps.{cases}
-use lib.Dec.{T, leb}
+use lib.Dec.{leb}
 use lib.ListN.{length, drop, replicate, length-append, length-replicate, length-drop, drop-of-length-le}
 use lib.Seq.{drop-append-seam, drop-drop, drop-length, take-at}
-use Rattle.form.specs.Form.{render, holes}
+use Rattle.form.specs.Form.{holes}
 use Rattle.form.specs.Read.{Reading, done, departsAt, read}
-use Rattle.form.specs.Sound.{sound}
 use Rattle.form.specs.declared.read.Values.{Values}
 use Rattle.form.specs.Says.{valuesOf, saidOf}
-use Rattle.form.specs.BothWays.{rendered-read, holds-many}
+use Rattle.form.specs.BothWays.{spelled-read, spells-holds, holds-many}
 
 -- a text's end is found again by its length
 end-again : (text : List ℕ) (k : ℕ) → drop (length text - length (drop k text)) text ≡ drop k text
@@ -25,37 +24,40 @@ end-again text k =
     rw (length-drop k text, e))
     (λ b. rw (drop-of-length-le text {i = k} (omega (arith, leb-false k (length text) b)), sub-zero (length text)) (drop-length text))
 
-read-end : (f text vs t : List ℕ) (at line : ℕ) → T (sound f) → read f line (drop at text) ≡ done vs t → drop (length text - length t) text ≡ t
-read-end f text vs t at line h e =
-    let q = rendered-read f (drop at text) vs t line h e .0 in
-    let z : drop (at + length (render f vs)) text ≡ t = sym (drop-drop (length (render f vs)) at text) ∙ ap (drop (length (render f vs))) q ∙ drop-append-seam (render f vs) t in
-    rw (← z) (end-again text (at + length (render f vs)))
+read-end : (f text vs t : List ℕ) (at line : ℕ) → read f line (drop at text) ≡ done vs t → drop (length text - length t) text ≡ t
+read-end f text vs t at line e =
+    let q = spelled-read f (drop at text) vs t line e in
+    let n = length (q .spelled) in
+    let z : drop (at + n) text ≡ t = sym (drop-drop n at text) ∙ ap (drop n) (q .text) ∙ drop-append-seam (q .spelled) t in
+    rw (← z) (end-again text (at + n))
 
-said-by : (f text : List ℕ) (at line after : ℕ) (g : Reading) → T (sound f) → read f line (drop at text) ≡ g → g ≡ saidOf text (holes f) (valuesOf text after g)
+-- as many values as the form has holes
+read-many : (f s vs t : List ℕ) (line : ℕ) → read f line s ≡ done vs t → length vs ≡ holes f
+read-many f s vs t line e = holds-many f vs (spells-holds (spelled-read f s vs t line e .spells))
+
+said-by : (f text : List ℕ) (at line after : ℕ) (g : Reading) → read f line (drop at text) ≡ g → g ≡ saidOf text (holes f) (valuesOf text after g)
 unfolding valuesOf
-said-by f text at line after (done vs t) h e =
-    let m = holds-many f vs (rendered-read f (drop at text) vs t line h e .1) in
-    rw (take-at vs (replicate (16 - length vs) 0) (holes f) m, read-end f text vs t at line h e)
-said-by f text at line after (departsAt k) h e = refl
+said-by f text at line after (done vs t) e = rw (take-at vs (replicate (16 - length vs) 0) (holes f) (read-many f (drop at text) vs t line e), read-end f text vs t at line e)
+said-by f text at line after (departsAt k) e = refl
 
 at-inside : (text : List ℕ) (after : ℕ) (g : Reading) → valuesOf text after g .at ≤ length text
 unfolding valuesOf
 at-inside text after (done vs t) = omega arith
 at-inside text after (departsAt k) = zero-le
 
-sixteen-by : (f text : List ℕ) (at line after : ℕ) (g : Reading) → T (sound f) → holes f ≤ 16 → read f line (drop at text) ≡ g → length (valuesOf text after g .values) ≡ 16
+sixteen-by : (f text : List ℕ) (at line after : ℕ) (g : Reading) → holes f ≤ 16 → read f line (drop at text) ≡ g → length (valuesOf text after g .values) ≡ 16
 unfolding valuesOf
-sixteen-by f text at line after (done vs t) h m e =
-    let n = holds-many f vs (rendered-read f (drop at text) vs t line h e .1) in
+sixteen-by f text at line after (done vs t) m e =
+    let n = read-many f (drop at text) vs t line e in
     rw (length-append vs (replicate (16 - length vs) 0), length-replicate {A = ℕ} (16 - length vs) 0) (omega arith)
-sixteen-by f text at line after (departsAt k) h m e = refl
+sixteen-by f text at line after (departsAt k) m e = refl
 
-module _ (f text : List ℕ) (at line after : ℕ) (r : Values) (h : T (sound f)) (e : r ≡ valuesOf text after (read f line (drop at text))) where
+module _ (f text : List ℕ) (at line after : ℕ) (r : Values) (e : r ≡ valuesOf text after (read f line (drop at text))) where
   pub said : read f line (drop at text) ≡ saidOf text (holes f) r
-  said = rw e (said-by f text at line after (read f line (drop at text)) h refl)
+  said = rw e (said-by f text at line after (read f line (drop at text)) refl)
 
   pub said-inside : r .at ≤ length text
   said-inside = rw e (at-inside text after (read f line (drop at text)))
 
   pub said-sixteen : holes f ≤ 16 → length (r .values) ≡ 16
-  said-sixteen m = rw e (sixteen-by f text at line after (read f line (drop at text)) h m refl)
+  said-sixteen m = rw e (sixteen-by f text at line after (read f line (drop at text)) m refl)

@@ -6,8 +6,14 @@ use Prim.Native.Nat.{ℕ, _-_, _≤_}
 use lib.ListN.{length, take, drop, replicate}
 use Rattle.form.specs.declared.token.Token.{Token}
 use Rattle.form.specs.declared.token.Token.the-variants.{Value, Departs}
+use Rattle.form.specs.declared.value.Ran.{Ran}
 use Rattle.form.specs.declared.read.Values.{Values}
-use Rattle.form.specs.Read.{Field, found, departs, Reading, done, departsAt}
+use Rattle.form.specs.Field.{Field, found, departs}
+use Rattle.form.specs.Decimal.{Run, run}
+use Rattle.form.specs.Read.{Reading, done, departsAt}
+
+abbrev pub ranOf : List ℕ → Ran → Run
+ranOf text r = run (r .value) (r .count) (drop (r .at) text)
 
 abbrev pub Says : List ℕ → Token → Field → Type 0
 Says text (Value v next) f = (f ≡ found v (drop next text)) × (next ≤ length text)

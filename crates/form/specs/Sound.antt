@@ -2,18 +2,23 @@
 use mathlib.Core.Bool.{Bool, true, cond, _&&_, _||_, not}
 use mathlib.Core.List.{List, [], _∷_, _++_}
 use Prim.Native.Nat.{ℕ, _+_, _^_, _<_}
-use lib.Dec.{ltb}
+use lib.Dec.{ltb, eqb}
 use Rattle.form.specs.Form.{first, isCount, isBits, isHole}
-use Rattle.form.specs.Read.{isDigit}
+use Rattle.form.specs.Field.{isDigit}
 
--- a byte at which a count before it is seen to end: one that stands for itself and is no digit
-abbrev pub endsCount : ℕ → Bool
-endsCount c = ltb 0 c && not (isDigit c) && not (isHole c)
+-- a byte at which a hole before it is seen to end: one that stands for itself and is neither a digit nor a point
+abbrev pub endsHole : ℕ → Bool
+endsHole c = ltb 0 c && not (isDigit c) && not (eqb c 46) && not (isHole c)
 
--- The byte after each `#` ends its count. (`first []` is 0, so no form ends in `#`.)
+-- The byte after each hole ends it. (`first []` is 0, so no form ends in a hole.)
 unfoldable pub sound : List ℕ → Bool
 sound [] = true
-sound (c ∷ f) = (not (isCount c) || endsCount (first f)) && sound f
+sound (c ∷ f) = (not (isHole c) || endsHole (first f)) && sound f
+
+-- a form of counts alone: its values have one text
+unfoldable pub plain : List ℕ → Bool
+plain [] = true
+plain (c ∷ f) = not (isBits c) && plain f
 
 -- what each value must be below, in the holes' order: a count 2^32, the bits of an f64 2^64
 abbrev pub limitOf : ℕ → List ℕ
@@ -34,9 +39,9 @@ Below (l ∷ ls) (v ∷ vs) = (v < l) × Below ls vs
 abbrev pub Holds : List ℕ → List ℕ → Type 0
 Holds f vs = Below (limits f) vs
 
--- a form's rendering has at most so many bytes
+-- a text that spells a form has at most so many bytes: a count ten, an f64 a minus, seventeen digits and a point
 abbrev pub mostOf : ℕ → ℕ
-mostOf c = cond (isCount c) 10 (cond (isBits c) 16 1)
+mostOf c = cond (isCount c) 10 (cond (isBits c) 19 1)
 
 unfoldable pub most : List ℕ → ℕ
 most [] = 0

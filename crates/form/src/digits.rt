@@ -1,7 +1,7 @@
 // What a byte is as a digit.
 ghost use mathlib.Core.Path.{_≡_};
 ghost use Prim.Native.Nat.{_-_, _≤_};
-ghost use Rattle.form.specs.Read.{isDigit, isHex, hexValue};
+ghost use Rattle.form.specs.Field.{isDigit, isHex, hexValue};
 
 pub fn is_digit(c: u8) -> bool
     ensures { λ r. ⌜ r ≡ isDigit c ⌝ }

@@ -2,3 +2,4 @@
 pub mod digits;
 pub mod read;
 pub mod token;
+pub mod value;

@@ -1,7 +1,8 @@
-// What stands at a place of a text: a hexadecimal number, a count, or one byte.
+// What stands at a place of a text: a hexadecimal number, a count, one byte, or what a byte of a form asks for.
 ghost use Prim.Native.Nat.{_^_, _≤_, _<_};
 ghost use lib.ListN.{length, drop};
-ghost use Rattle.form.specs.Read.{readHex, readMore, readCount, readByte, readField};
+ghost use Rattle.form.specs.Field.{readHex, readMore, readCount, readByte};
+ghost use Rattle.form.specs.Read.{readField};
 ghost use Rattle.form.specs.Says.{Says};
 
 // A value and where the text goes on.
@@ -10,7 +11,7 @@ pub enum Token {
     Departs,
 }
 
-fn hex_at(text: &[u8], start: usize) -> Token
+pub fn hex_at(text: &[u8], start: usize) -> Token
     requires { ⌜ start ≤ length (now text) ⌝ }
     ensures { λ r. ⌜ Says (now (text .entry)) r (readHex 16 0 (drop start (now (text .entry)))) ⌝ }
 {
@@ -90,7 +91,7 @@ pub fn token_at(text: &[u8], at: usize, c: u8) -> Token
         return count_at(text, at);
     }
     if c == 37 {
-        return hex_at(text, at);
+        return crate::value::value_at(text, at);
     }
     byte_at(text, at, c)
 }

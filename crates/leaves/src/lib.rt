@@ -1,5 +1,6 @@
 // The inner functions for comparisons from outside: numbers in, results into buffers that the caller lends.
 // The status is 1 where a buffer is too short, and then nothing is written; else 0.
+use form::token::Token;
 use legendre::Pair;
 use work::QuadratureEvaluations;
 ghost use mathlib.Core.Path.{_≡_};
@@ -163,4 +164,23 @@ pub extern "C" fn leaf_objective(
     let c = [work::number(end), work::reason(end), o.used.0];
     put::counts(&c, counts);
     0
+}
+
+// Two numbers: the bits of the f64 that a text begins with, in either spelling, and the place where the text goes on. The status is 2 where it begins with none.
+#[no_mangle]
+pub extern "C" fn leaf_value(text: &[u8], out: &mut [u64]) -> u64
+    ensures { λ r. ⌜ (length (now (out .entry)) < 2 → r ≡ 1) ⌝ }
+{
+    if out.len() < 2 {
+        return 1;
+    }
+    let t = form::value::value_at(text, 0);
+    match t {
+        Token::Value(v, next) => {
+            out[0] = v;
+            out[1] = next as u64;
+            0
+        }
+        Token::Departs => 2,
+    }
 }

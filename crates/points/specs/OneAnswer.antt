@@ -1,9 +1,9 @@
 -- No second answer meets a contract of the form `r ≡ definition`: one lemma, and what it says of each public function.
 use mathlib.Core.Path.{_≡_, sym, _∙_}
-use mathlib.Core.Bool.{_&&_, _||_}
+use mathlib.Core.Bool.{Bool, _&&_, _||_}
 use mathlib.Core.List.{List, []}
-use Prim.Native.Nat.{ℕ, _-_}
-use lib.Ieee.{Float, nan}
+use Prim.Native.Nat.{ℕ, _-_, _^_}
+use lib.Ieee.{Float, nan, binary64, round}
 use Rattle.num.specs.F64.{infinity·}
 use Rattle.num.specs.Helpers.{absOf, isFinite, maxOf, minOf, clampOf, powiOf, sumOf}
 use Rattle.root.specs.Steps.{sqrtOf}
@@ -103,6 +103,10 @@ of-num = (one1 _, one1 _, one2 _, one2 _, one3 _, one2 _, one1 _, one2 _, one0 _
 -- the root's statement by squares has a theorem of its own, `one-root`
 pub of-elementary : One1 sqrtOf × One1 expRow × One1 logRow × One1 erfcRow × One1 expOf × One2 expLow × One1 logOf × One2 logParts × One1 erfcOf × One1 erfcPos × One1 lgammaOf × One1 cosOf × One2 hypotOf
 of-elementary = (one1 _, one1 _, one1 _, one1 _, one1 _, one2 _, one1 _, one2 _, one1 _, one1 _, one1 _, one1 _, one2 _)
+
+-- the decimal's statement by whole numbers has `one-decimal`
+pub of-decimal : One3 (λ (minus : Bool) (digits places : ℕ). round binary64 minus digits (10 ^ places))
+of-decimal = one3 _
 
 pub of-work : One1 isRefused × One1 numberOf × One1 reasonOf × One1 status.numberOf
 of-work = (one1 _, one1 _, one1 _, one1 _)

@@ -11,7 +11,8 @@ use Rattle.num.specs.F64.{bitsOf}
 use Rattle.fit.specs.declared.report.Fit.{Fit}
 use Rattle.form.specs.Digits.{digits}
 use Rattle.form.specs.Form.{render}
-use Rattle.form.specs.Read.{isDigit, isHex, hexValue, Field, found, departs, feeds, read}
+use Rattle.form.specs.Field.{isDigit, isHex, hexValue, Field, found, departs}
+use Rattle.form.specs.Read.{feeds, read}
 use Rattle.form.specs.declared.token.Token.{Token}
 use Rattle.form.specs.declared.token.Token.the-variants.{Value, Departs}
 use Rattle.form.specs.Says.{Says, valuesOf}

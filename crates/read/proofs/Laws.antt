@@ -16,7 +16,7 @@ use Rattle.form.specs.declared.read.Values.{Values}
 use Rattle.form.specs.Says.{valuesOf, saidOf}
 use Rattle.form.specs.Said.{said, said-inside, said-sixteen}
 use Rattle.form.specs.BothWays.{rendered-read}
-use Rattle.read.specs.BothWays.{head-sound, litter-sound, rows-sound, litter-below}
+use Rattle.read.specs.BothWays.{litter-plain, litter-below}
 use Rattle.read.specs.declared.Asking.{Asking}
 use Rattle.read.specs.declared.Lines.{Lines}
 use Rattle.read.specs.declared.Lines.the-variants.{Litters, Departs}
@@ -41,21 +41,21 @@ something-left l i h = rw (drop-cons l i 0 h)
 -- what the answers by the three forms say
 says-rows : (text : List ℕ) (at line after : ℕ) (r : Values) → r ≡ valuesOf text after (read rows line (drop at text)) → read rows line (drop at text) ≡ saidOf text 2 r
 unfolding holes rows
-says-rows text at line after r e = said rows text at line after r rows-sound e
+says-rows text at line after r e = said rows text at line after r e
 
 says-litter : (text : List ℕ) (at line after : ℕ) (r : Values) → r ≡ valuesOf text after (read litter line (drop at text)) → read litter line (drop at text) ≡ saidOf text 3 r
 unfolding holes litter
-says-litter text at line after r e = said litter text at line after r litter-sound e
+says-litter text at line after r e = said litter text at line after r e
 
 says-head : (text : List ℕ) (after : ℕ) (r : Values) → r ≡ valuesOf text after (read head 1 text) → (read head 1 text ≡ saidOf text 16 r) × (length (r .values) ≡ 16)
 unfolding holes head
-says-head text after r e = (said head text 0 1 after r head-sound e, said-sixteen head text 0 1 after r head-sound e (lit≤ tt))
+says-head text after r e = (said head text 0 1 after r e, said-sixteen head text 0 1 after r e (lit≤ tt))
 
 pub litter-inside : (text : List ℕ) (at line after : ℕ) (r : Values) → r ≡ valuesOf text after (read litter line (drop at text)) → r .at ≤ length text
-litter-inside text at line after r e = said-inside litter text at line after r litter-sound e
+litter-inside text at line after r e = said-inside litter text at line after r e
 
 pub head-inside : (text : List ℕ) (after : ℕ) (r : Values) → r ≡ valuesOf text after (read head 1 text) → r .at ≤ length text
-head-inside text after r e = said-inside head text 0 1 after r head-sound e
+head-inside text after r e = said-inside head text 0 1 after r e
 
 module _ (vs text : List ℕ) (line at start n after : ℕ) (r : Values) (w : r ≡ valuesOf text after (read rows line (drop at text))) where
   says : read rows line (drop at text) ≡ saidOf text 2 r
@@ -107,7 +107,7 @@ module _ (text : List ℕ) (at n after : ℕ) (r : Values) (w : r ≡ valuesOf t
     pub litter-small : (getD (r .values) 0 0 < 2 ^ 32) × (getD (r .values) 1 0 < 2 ^ 32) × (getD (r .values) 2 0 < 2 ^ 32)
     litter-small =
         let v = r .values in
-        let b = litter-below (take 3 v) (rendered-read litter (drop at text) (take 3 v) (drop (r .at) text) (8 + n) litter-sound read-litter .1) in
+        let b = litter-below (take 3 v) (rendered-read litter (drop at text) (take 3 v) (drop (r .at) text) (8 + n) litter-plain read-litter .1) in
         (rw (getD-take 3 v 0 0 (lit< tt)) at (b .0), rw (getD-take 3 v 1 0 (lit< tt)) at (b .1), rw (getD-take 3 v 2 0 (lit< tt)) at (b .2))
 
     pub row-read : (vs : List ℕ) (start : ℕ) → n < 8192 → askingOf n (readRows (8192 - n) vs start n (drop at text)) ≡ askingOf (n + 1) (readRows (8192 - (n + 1)) vs start (n + 1) (drop (r .at) text))

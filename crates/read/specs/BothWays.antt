@@ -1,4 +1,4 @@
--- Reading a request and rendering it are inverse: each request of at most 8,192 bytes has one text.
+-- Reading a request and spelling it are inverse: a text of at most 8,192 bytes is read as a request exactly if it spells that request.
 use mathlib.Core.Path.{_≡_, refl, sym, ap, _∙_}
 use mathlib.Core.Logic.{_↔_}
 use mathlib.Core.Bool.{true, _&&_, and-eq-true-iff, false≢true}
@@ -11,9 +11,11 @@ use borrow.Table.Steps.{cases}
 use lib.Dec.{T, ltb, eqb, lit≤}
 use lib.ListN.{length, length-append, getD}
 use Rattle.form.specs.Form.{first, after, render, holes}
-use Rattle.form.specs.Read.{Reading, done, departsAt, readByte, readField, read}
-use Rattle.form.specs.Sound.{sound, limits, Holds, most}
-use Rattle.form.specs.BothWays.{holds-below, rendered-read, read-rendered, render-least, render-most}
+use Rattle.form.specs.Field.{readByte}
+use Rattle.form.specs.Read.{Reading, done, departsAt, readField, read}
+use Rattle.form.specs.Sound.{sound, plain, limits, Holds, most}
+use Rattle.form.specs.Spells.{Spells}
+use Rattle.form.specs.BothWays.{holds-below, spelled-read, read-spelled, rendered-read, read-rendered, render-spells, spells-least, spells-most}
 use Rattle.read.specs.Request.{head, litter, rows, Asked, asked, form, renderLitters, renderRequest, isEmpty, withLitter, readLast, readRow, readRows, readAfter, readRequest}
 
 -- ---- the three forms
@@ -30,6 +32,15 @@ pub rows-sound : T (sound rows)
 unfolding sound rows
 rows-sound = tt
 
+-- the lines after the head have counts alone
+pub litter-plain : T (plain litter)
+unfolding plain litter
+litter-plain = tt
+
+pub rows-plain : T (plain rows)
+unfolding plain rows
+rows-plain = tt
+
 -- What a request may ask: sixteen values that fit the head, and three for each litter.
 abbrev pub EachHolds : List (List ℕ) → Type 0
 EachHolds [] = Unit
@@ -38,6 +49,17 @@ EachHolds (l ∷ ls) = Holds litter l × EachHolds ls
 pub record Asks (vs : List ℕ) (ls : List (List ℕ)) : Type 0 where
   pub heads : Holds head vs
   pub litters : EachHolds ls
+
+-- the last line of a request with n litters, the first at byte `start`
+abbrev pub lastLine : ℕ → ℕ → List ℕ
+lastLine n start = render rows (n ∷ start ∷ [])
+
+-- A text spells a request: its head with the values vs, in any spelling; then a line for each litter, and the last with their number and the byte at which the first starts.
+pub record SpellsRequest (vs : List ℕ) (ls : List (List ℕ)) (text : List ℕ) : Type 0 where
+  pub top : List ℕ
+  pub heads : Spells head vs top
+  pub litters : EachHolds ls
+  pub is : text ≡ top ++ (renderLitters ls ++ lastLine (length ls) (length top))
 
 -- a litter's numbers, and the limits of the work, are below 2^32
 pub litter-below : (l : List ℕ) → Holds litter l → (getD l 0 0 < 2 ^ 32) × (getD l 1 0 < 2 ^ 32) × (getD l 2 0 < 2 ^ 32)
@@ -49,10 +71,6 @@ unfolding limits holes head
 work-below vs b = (holds-below head vs 12 b (lit≤ tt), holds-below head vs 13 b (lit≤ tt), holds-below head vs 14 b (lit≤ tt))
 
 -- ---- the lines after the head
-
--- the last line of a request with n litters, the first at byte `start`
-abbrev pub lastLine : ℕ → ℕ → List ℕ
-lastLine n start = render rows (n ∷ start ∷ [])
 
 -- the last line is no litter's: its first byte is another
 pub no-litter : (line : ℕ) (us t : List ℕ) → read litter line (render rows us ++ t) ≡ departsAt line
@@ -80,64 +98,71 @@ rows-read-back (suc k) vs start n (l ∷ ls) a h g b =
     (m, append-assoc (render litter l) (renderLitters ls) (lastLine (n + 1 + length ls) start), read-rendered litter l rest (8 + n) litter-sound (a .0), rows-read-back k vs start (n + 1) ls (a .1) (omega arith) (omega arith) b)
 
 -- neither is empty
-pub forms-some : (1 ≤ length head) × (1 ≤ length litter)
+forms-some : (1 ≤ length head) × (1 ≤ length litter)
 unfolding head litter
 forms-some = (lit≤ tt, lit≤ tt)
 
-pub litters-some : (ls : List (List ℕ)) → length ls ≤ length (renderLitters ls)
+pub head-some : (vs h : List ℕ) → Spells head vs h → 1 ≤ length h
+head-some vs h k = omega (arith, forms-some, spells-least k)
+
+pub litter-some : (l : List ℕ) → Holds litter l → 1 ≤ length (render litter l)
+litter-some l b = omega (arith, forms-some, spells-least (render-spells litter l b))
+
+pub litters-some : (ls : List (List ℕ)) → EachHolds ls → length ls ≤ length (renderLitters ls)
 unfolding renderLitters
-litters-some [] = zero-le
-litters-some (l ∷ ls) = rw (length-append (render litter l) (renderLitters ls)) (omega (arith, forms-some, render-least litter l, litters-some ls))
+litters-some [] a = zero-le
+litters-some (l ∷ ls) a = rw (length-append (render litter l) (renderLitters ls)) (omega (arith, litter-some l (a .0), litters-some ls (a .1)))
 
 -- the text in its three parts, and its length
 pub parts-long : (a b c : List ℕ) → length (a ++ (b ++ c)) ≡ length a + (length b + length c)
 parts-long a b c = simp length-append
 
 -- after the head, its rows are read
-pub after-head : (vs rest : List ℕ) → Holds head vs → length (render head vs ++ rest) ≤ 8192 → readRequest (render head vs ++ rest) ≡ readRows 8192 vs (length (render head vs)) 0 rest
+pub after-head : (vs top rest : List ℕ) → Spells head vs top → length (top ++ rest) ≤ 8192 → readRequest (top ++ rest) ≡ readRows 8192 vs (length top) 0 rest
 unfolding readRequest
-after-head vs rest b h =
-    let start = length (render head vs) in
-    let z : length (render head vs ++ rest) - length rest ≡ start = rw (length-append (render head vs) rest) (add-sub-cancel start (length rest)) in
-    rw (le-ltb 8192 (length (render head vs ++ rest)) h, read-rendered head vs rest 1 head-sound b, z)
+after-head vs top rest b h =
+    let z : length (top ++ rest) - length rest ≡ length top = rw (length-append top rest) (add-sub-cancel (length top) (length rest)) in
+    rw (le-ltb 8192 (length (top ++ rest)) h, read-spelled 1 rest head-sound b, z)
 
--- What is rendered is read back, if it is no longer than a text may be.
-pub request-read-back : (vs : List ℕ) (ls : List (List ℕ)) → Asks vs ls → length (renderRequest vs ls) ≤ 8192 → readRequest (renderRequest vs ls) ≡ asked vs ls
+-- What is spelled is read back, if it is no longer than a text may be.
+pub request-read-back : (text vs : List ℕ) (ls : List (List ℕ)) → SpellsRequest vs ls text → length text ≤ 8192 → readRequest text ≡ asked vs ls
+request-read-back text vs ls a h =
+    let top = a .top in
+    let last = lastLine (length ls) (length top) in
+    let n : length text ≡ length top + (length (renderLitters ls) + length last) = ap length (a .is) ∙ parts-long top (renderLitters ls) last in
+    let s = litters-some ls (a .litters) in
+    let s' = head-some vs top (a .heads) in
+    let r = rows-read-back 8192 vs (length top) 0 ls (a .litters) (omega arith) (omega arith) (omega arith) in
+    ap readRequest (a .is) ∙ after-head vs top (renderLitters ls ++ last) (a .heads) (rw (a .is) at h) ∙ (rw (zero-add (length ls)) at r)
+
+-- a request's rendering spells it: so whatever may be asked has a text
+pub rendering-spells : (vs : List ℕ) (ls : List (List ℕ)) → Asks vs ls → SpellsRequest vs ls (renderRequest vs ls)
 unfolding renderRequest
-request-read-back vs ls a h =
-    let start = length (render head vs) in
-    let last = lastLine (length ls) start in
-    let n = parts-long (render head vs) (renderLitters ls) last in
-    let s = litters-some ls in
-    let o = forms-some in
-    let s' = render-least head vs in
-    let r = rows-read-back 8192 vs start 0 ls (a .litters) (omega arith) (omega arith) (omega arith) in
-    after-head vs (renderLitters ls ++ last) (a .heads) h ∙ (rw (zero-add (length ls)) at r)
+rendering-spells vs ls a = record { top = render head vs; heads = render-spells head vs (a .heads); litters = a .litters; is = refl }
 
 -- ---- how long a request is
 
-most-are : (most head ≡ 310) × (most litter ≡ 40) × (most rows ≡ 30)
+most-are : (most head ≡ 349) × (most litter ≡ 40) × (most rows ≡ 30)
 unfolding most head litter rows
 most-are = (refl, refl, refl)
 
 litters-most : (ls : List (List ℕ)) → EachHolds ls → length (renderLitters ls) ≤ 40 * length ls
 unfolding renderLitters
 litters-most [] a = zero-le
-litters-most (l ∷ ls) a = rw (length-append (render litter l) (renderLitters ls)) (omega (arith, render-most litter l (a .0), most-are, litters-most ls (a .1)))
+litters-most (l ∷ ls) a = rw (length-append (render litter l) (renderLitters ls)) (omega (arith, spells-most (render-spells litter l (a .0)), most-are, litters-most ls (a .1)))
 
--- a request of at most 128 litters is no longer than a text may be
-pub short-enough : (vs : List ℕ) (ls : List (List ℕ)) → Asks vs ls → length ls ≤ 128 → length (renderRequest vs ls) ≤ 8192
-unfolding renderRequest
-short-enough vs ls a h =
-    let start = length (render head vs) in
-    let us = length ls ∷ start ∷ [] in
+-- a request of at most 128 litters is no longer than a text may be, in any spelling
+pub short-enough : (text vs : List ℕ) (ls : List (List ℕ)) → SpellsRequest vs ls text → length ls ≤ 128 → length text ≤ 8192
+short-enough text vs ls a h =
+    let top = a .top in
+    let us = length ls ∷ length top ∷ [] in
     let m = most-are in
-    let p = render-most head vs (a .heads) in
+    let p = spells-most (a .heads) in
     let q = litters-most ls (a .litters) in
-    let r = render-most rows us (last-holds (length ls) start (omega arith) (omega arith)) in
-    rw (parts-long (render head vs) (renderLitters ls) (render rows us)) (omega arith)
+    let r = spells-most (render-spells rows us (last-holds (length ls) (length top) (omega arith) (omega arith))) in
+    rw (a .is, parts-long top (renderLitters ls) (render rows us)) (omega arith)
 
--- ---- what is read is a rendering
+-- ---- what is read is spelled
 
 pub not-asked : (k : ℕ) (vs : List ℕ) (ls : List (List ℕ)) → form k ≡ asked vs ls → ⊥
 not-asked k vs ls e = let z : _≡_ {A = ℕ} 0 1 = cc in omega arith
@@ -158,7 +183,7 @@ last-values (w ∷ u ∷ x ∷ ws) n start b p q = absurd (b .1 .1)
 -- a last line with the right numbers
 pub last-right : (line start n : ℕ) (s ws t : List ℕ) → read rows line s ≡ done ws t → (eqb (first ws) n && eqb (first (after ws)) start) ≡ true → s ≡ lastLine n start ++ t
 last-right line start n s ws t e b =
-    let r = rendered-read rows s ws t line rows-sound e in
+    let r = rendered-read rows s ws t line rows-plain e in
     let q = and-eq-true-iff (eqb (first ws) n) (eqb (first (after ws)) start) .0 b in
     let w = last-values ws n start (r .1) (eqb-true (first ws) n (q .0)) (eqb-true (first (after ws)) start (q .1)) in
     r .0 ∙ ap (λ x. render rows x ++ t) w
@@ -185,7 +210,7 @@ litter-read-is :
     (vs : List ℕ) (start n : ℕ) (s us : List ℕ) (ls : List (List ℕ)) (l t : List ℕ) → read litter (8 + n) s ≡ done l t → RowsAre vs start (n + 1) t us ls → RowsAre vs start n s us (l ∷ ls)
 unfolding renderLitters
 litter-read-is vs start n s us ls l t e r =
-    let q = rendered-read litter s l t (8 + n) litter-sound e in
+    let q = rendered-read litter s l t (8 + n) litter-plain e in
     let m : n + suc (length ls) ≡ n + 1 + length ls = omega arith in
     let x = q .0 ∙ ap (λ x. render litter l ++ x) (r .text) ∙ sym (append-assoc (render litter l) (renderLitters ls) (lastLine (n + 1 + length ls) start)) in
     record { same = r .same; each = (q .1, r .each); text = rw m x }
@@ -207,31 +232,31 @@ rows-read-is (suc k) vs start n s us ls e = by-line (rows-read-is k vs start (n 
     by-line ih (done l t) e₁ e₂ = by-rest ih l t (readRows k vs start (n + 1) t) e₁ refl e₂
     by-line ih (departsAt x) e₁ e₂ = last-read-is vs (8 + n) start n s us ls (read rows (8 + n) s) refl e₂
 
--- What is read is the rendering of what it asks.
-pub read-is-rendering : (text vs : List ℕ) (ls : List (List ℕ)) → readRequest text ≡ asked vs ls → (text ≡ renderRequest vs ls) × Asks vs ls
-unfolding readRequest renderRequest
-read-is-rendering text vs ls e =
+-- What is read spells what it asks.
+pub read-is-spelled : (text vs : List ℕ) (ls : List (List ℕ)) → readRequest text ≡ asked vs ls → SpellsRequest vs ls text
+unfolding readRequest
+read-is-spelled text vs ls e =
     cases (ltb 8192 (length text))
     (λ b. absurd (not-asked 0 vs ls (rw b at e)))
     (λ b. by-head (read head 1 text) refl (rw b at e))
   where
-    by-head : (r : Reading) → read head 1 text ≡ r → readAfter text r ≡ asked vs ls → (text ≡ renderRequest vs ls) × Asks vs ls
+    by-head : (r : Reading) → read head 1 text ≡ r → readAfter text r ≡ asked vs ls → SpellsRequest vs ls text
     by-head (departsAt k) e₁ e₂ = absurd (not-asked k vs ls e₂)
     by-head (done us s) e₁ e₂ =
-        let q = rendered-read head text us s 1 head-sound e₁ in
+        let q = spelled-read head text us s 1 e₁ in
         let r = rows-read-is 8192 us (length text - length s) 0 s vs ls e₂ in
-        let h = render head us in
-        let z : length text - length s ≡ length h = ap (λ x. length x - length s) (q .0) ∙ rw (length-append h s) (add-sub-cancel (length h) (length s)) in
-        rw (← (r .same)) (q .0 ∙ ap (λ x. h ++ x) (r .text ∙ rw (z, zero-add (length ls))), record { heads = q .1; litters = r .each })
+        let h = q .spelled in
+        let z : length text - length s ≡ length h = ap (λ x. length x - length s) (q .text) ∙ rw (length-append h s) (add-sub-cancel (length h) (length s)) in
+        record { top = h; heads = rw (← (r .same)) (q .spells); litters = r .each; is = q .text ∙ ap (λ x. h ++ x) (r .text ∙ rw (z, zero-add (length ls))) }
 
--- two texts that ask the same are the same
-pub one-text : (text text' vs : List ℕ) (ls : List (List ℕ)) → readRequest text ≡ asked vs ls → readRequest text' ≡ asked vs ls → text ≡ text'
-one-text text text' vs ls e e' = read-is-rendering text vs ls e .0 ∙ sym (read-is-rendering text' vs ls e' .0)
-
--- A text is read as a request exactly if it is that request's rendering, within the limits.
-pub read-exactly : (text vs : List ℕ) (ls : List (List ℕ)) → readRequest text ≡ asked vs ls ↔ ((text ≡ renderRequest vs ls) × Asks vs ls × (length text ≤ 8192))
+-- A text is read as a request exactly if it spells that request and is no longer than a text may be.
+pub read-exactly : (text vs : List ℕ) (ls : List (List ℕ)) → readRequest text ≡ asked vs ls ↔ (SpellsRequest vs ls text × (length text ≤ 8192))
 unfolding readRequest
 read-exactly text vs ls = (
-  λ e. let r = read-is-rendering text vs ls e in (r .0, r .1, cases (ltb 8192 (length text)) (λ b. absurd (not-asked 0 vs ls (rw b at e))) (λ b. ltb-false 8192 (length text) b)),
-  λ r. rw (r .0) (request-read-back vs ls (r .1) (rw (r .0) at (r .2))),
+  λ e. (read-is-spelled text vs ls e, cases (ltb 8192 (length text)) (λ b. absurd (not-asked 0 vs ls (rw b at e))) (λ b. ltb-false 8192 (length text) b)),
+  λ r. request-read-back text vs ls (r .0) (r .1),
 )
+
+-- such a text spells one request
+pub one-request : (text vs vs' : List ℕ) (ls ls' : List (List ℕ)) → length text ≤ 8192 → SpellsRequest vs ls text → SpellsRequest vs' ls' text → (vs ≡ vs') × (ls ≡ ls')
+one-request text vs vs' ls ls' h a b = let e = request-read-back text vs ls a h in let f = request-read-back text vs' ls' b h in (cc, cc)

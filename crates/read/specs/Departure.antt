@@ -13,10 +13,11 @@ use lib.ListN.{length, length-append}
 use Rattle.form.specs.Form.{first, after, render}
 use Rattle.form.specs.Read.{Reading, done, departsAt, read}
 use Rattle.form.specs.Sound.{Holds}
-use Rattle.form.specs.BothWays.{not-there, rendered-read, read-rendered, render-least}
+use Rattle.form.specs.Spells.{Spells}
+use Rattle.form.specs.BothWays.{spelled-read, rendered-read, read-rendered, not-rendered}
 use Rattle.form.specs.Departure.{Departs, departs-there, there-departs}
 use Rattle.read.specs.Request.{head, litter, rows, Asked, asked, form, renderLitters, isEmpty, withLitter, readLast, readRow, readRows, readAfter, readRequest}
-use Rattle.read.specs.BothWays.{head-sound, litter-sound, rows-sound, EachHolds, Asks, lastLine, no-litter, last-holds, last-right, forms-some, parts-long, litters-some, after-head, not-asked}
+use Rattle.read.specs.BothWays.{head-sound, litter-sound, rows-sound, litter-plain, EachHolds, lastLine, no-litter, last-holds, last-right, head-some, litter-some, parts-long, litters-some, after-head, not-asked}
 
 -- no litter's line stands at t; nor does the last line of n litters
 abbrev pub NoLitter : List ℕ → Type 0
@@ -35,7 +36,7 @@ pub data Departure (text : List ℕ) (k : ℕ) : Type 0 where
   too-long : 8192 < length text → k ≡ 0 → Departure text k
   in-head : length text ≤ 8192 → Departs head 1 text k → Departure text k
   past-head :
-      (vs : List ℕ) (ls : List (List ℕ)) (t : List ℕ) → length text ≤ 8192 → Asks vs ls → text ≡ render head vs ++ (renderLitters ls ++ t) → Wrong (length ls) (length (render head vs)) t k → Departure text k
+      (vs top : List ℕ) (ls : List (List ℕ)) (t : List ℕ) → length text ≤ 8192 → Spells head vs top → EachHolds ls → text ≡ top ++ (renderLitters ls ++ t) → Wrong (length ls) (length top) t k → Departure text k
 
 -- ---- the lines after the head
 
@@ -45,7 +46,7 @@ some-more (c ∷ t) e = refl
 
 last-departs :
     (vs : List ℕ) (start n : ℕ) (t : List ℕ) (k : ℕ) (r : Reading) → Holds rows (n ∷ start ∷ []) → NoLitter t → read rows (8 + n) t ≡ r → readLast vs (8 + n) start n r ≡ form k → Wrong n start t k
-last-departs vs start n t k (departsAt j) b o e f = no-line (cc) o (λ u. not-there rows t (n ∷ start ∷ []) u (8 + n) j rows-sound e b)
+last-departs vs start n t k (departsAt j) b o e f = no-line (cc) o (λ u. not-rendered rows t (n ∷ start ∷ []) u (8 + n) j rows-sound e b)
 last-departs vs start n t k (done ws u) b o e f =
     cases (eqb (first ws) n && eqb (first (after ws)) start)
     (λ x. cases (isEmpty u)
@@ -95,18 +96,17 @@ rows-depart (suc lines) vs start n k b s h g e = by-line (rows-depart lines vs s
 
     by-line : RowsDepartBy lines vs start (n + 1) k → (r : Reading) → read litter (8 + n) s ≡ r → readRow vs (8 + n) start n s r (readRows lines vs start (n + 1)) ≡ form k → RowsDepart start n s k
     by-line ih (done l t) e₁ e₂ =
-        let q = rendered-read litter s l t (8 + n) litter-sound e₁ in
+        let q = rendered-read litter s l t (8 + n) litter-plain e₁ in
         let m : length s ≡ length (render litter l) + length t = ap length (q .0) ∙ length-append (render litter l) t in
-        let o = forms-some in
-        let p = render-least litter l in
+        let p = litter-some l (q .1) in
         litter-before start n s k l t (q .0) (q .1) (ih t (omega arith) (omega arith) (by-rest l (readRows lines vs start (n + 1) t) e₂))
     by-line ih (departsAt j) e₁ e₂ =
-        let w = last-departs vs start n s k (read rows (8 + n) s) (last-holds n start (omega arith) b) (λ l u. not-there litter s l u (8 + n) j litter-sound e₁) refl e₂ in
+        let w = last-departs vs start n s k (read rows (8 + n) s) (last-holds n start (omega arith) b) (λ l u. not-rendered litter s l u (8 + n) j litter-sound e₁) refl e₂ in
         record { litters = []; each = tt; there = s; text = refl; wrong = rw (add-zero n) w }
 
-head-before : (text vs s : List ℕ) (k : ℕ) → length text ≤ 8192 → text ≡ render head vs ++ s → Holds head vs → RowsDepart (length (render head vs)) 0 s k → Departure text k
-head-before text vs s k h e b d =
-    past-head vs (d .litters) (d .there) h (record { heads = b; litters = d .each }) (e ∙ ap (λ x. render head vs ++ x) (d .text)) (rw (zero-add (length (d .litters))) at (d .wrong))
+head-before : (text vs top s : List ℕ) (k : ℕ) → length text ≤ 8192 → text ≡ top ++ s → Spells head vs top → RowsDepart (length top) 0 s k → Departure text k
+head-before text vs top s k h e b d =
+    past-head vs top (d .litters) (d .there) h b (d .each) (e ∙ ap (λ x. top ++ x) (d .text)) (rw (zero-add (length (d .litters))) at (d .wrong))
 
 -- The line of a form answer is the one at which the text departs.
 pub form-is-departure : (text : List ℕ) (k : ℕ) → readRequest text ≡ form k → Departure text k
@@ -119,12 +119,12 @@ form-is-departure text k e =
     by-head : length text ≤ 8192 → (r : Reading) → read head 1 text ≡ r → readAfter text r ≡ form k → Departure text k
     by-head h (departsAt j) e₁ e₂ = let z : j ≡ k = cc in in-head h (departs-there head text 1 k head-sound (e₁ ∙ ap departsAt z))
     by-head h (done vs s) e₁ e₂ =
-        let q = rendered-read head text vs s 1 head-sound e₁ in
-        let m : length text ≡ length (render head vs) + length s = ap length (q .0) ∙ length-append (render head vs) s in
-        let o = forms-some in
-        let p = render-least head vs in
-        let z : length text - length s ≡ length (render head vs) = omega arith in
-        head-before text vs s k h (q .0) (q .1) (rows-depart 8192 vs (length (render head vs)) 0 k (omega arith) s (omega arith) (omega arith) (rw z at e₂))
+        let q = spelled-read head text vs s 1 e₁ in
+        let top = q .spelled in
+        let m : length text ≡ length top + length s = ap length (q .text) ∙ length-append top s in
+        let p = head-some vs top (q .spells) in
+        let z : length text - length s ≡ length top = omega arith in
+        head-before text vs top s k h (q .text) (q .spells) (rows-depart 8192 vs (length top) 0 k (omega arith) s (omega arith) (omega arith) (rw z at e₂))
 
 -- ---- the other way
 
@@ -141,7 +141,7 @@ wrong-form vs start n t k go b (no-line e p q) = by-litter (read litter (8 + n) 
 
     by-litter : (r : Reading) → read litter (8 + n) t ≡ r → readRow vs (8 + n) start n t r go ≡ form k
     by-litter (departsAt j) f = by-last (read rows (8 + n) t) refl
-    by-litter (done l u) f = let r = rendered-read litter t l u (8 + n) litter-sound f in absurd (p l u (r .1) (r .0))
+    by-litter (done l u) f = let r = rendered-read litter t l u (8 + n) litter-plain f in absurd (p l u (r .1) (r .0))
 
 rows-form :
     (lines : ℕ) (vs : List ℕ) (start n k : ℕ) (ls : List (List ℕ)) (t : List ℕ) → EachHolds ls → length ls < lines → n + length ls < 2 ^ 32 → start < 2 ^ 32 → Wrong (n + length ls) start t k →
@@ -159,15 +159,13 @@ pub departure-is-form : (text : List ℕ) (k : ℕ) → Departure text k → rea
 unfolding readRequest
 departure-is-form text k (too-long h e) = rw (lt-ltb 8192 (length text) h, e)
 departure-is-form text k (in-head h d) = rw (le-ltb 8192 (length text) h, there-departs head-sound d)
-departure-is-form text k (past-head vs ls t h a e w) =
-    let start = length (render head vs) in
+departure-is-form text k (past-head vs top ls t h b a e w) =
     let rest = renderLitters ls ++ t in
-    let n : length text ≡ start + (length (renderLitters ls) + length t) = ap length e ∙ parts-long (render head vs) (renderLitters ls) t in
-    let s = litters-some ls in
-    let o = forms-some in
-    let s' = render-least head vs in
-    let r = rows-form 8192 vs start 0 k ls t (a .litters) (omega arith) (omega arith) (omega arith) (rw zero-add w) in
-    ap readRequest e ∙ after-head vs rest (a .heads) (rw e at h) ∙ r
+    let n : length text ≡ length top + (length (renderLitters ls) + length t) = ap length e ∙ parts-long top (renderLitters ls) t in
+    let s = litters-some ls a in
+    let s' = head-some vs top b in
+    let r = rows-form 8192 vs (length top) 0 k ls t a (omega arith) (omega arith) (omega arith) (rw zero-add w) in
+    ap readRequest e ∙ after-head vs top rest b (rw e at h) ∙ r
 
 -- a text departs at one line
 pub one-departure : (text : List ℕ) (j k : ℕ) → Departure text j → Departure text k → j ≡ k

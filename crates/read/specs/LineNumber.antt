@@ -6,7 +6,7 @@ use native.Mathlib.Omega.{arith}
 use lib.ListN.{length}
 use Rattle.form.specs.Form.{render}
 use Rattle.form.specs.Read.{feeds}
-use Rattle.form.specs.Feeds.{feeds-append, render-feeds, feeds-before, text-before}
+use Rattle.form.specs.Feeds.{feeds-append, render-feeds, spells-feeds, feeds-before, text-before}
 use Rattle.form.specs.Feeds.{beforeOf as before-line}
 use Rattle.read.specs.Request.{head, litter, rows, renderLitters}
 use Rattle.read.specs.BothWays.{head-sound, lastLine}
@@ -29,7 +29,7 @@ wrongAfter {n = n} {start = start} (more c u e q) = lastLine n start
 abbrev pub beforeOf : {text : List ℕ} {k : ℕ} → Departure text k → List ℕ
 beforeOf (too-long h e) = []
 beforeOf (in-head h d) = before-line d
-beforeOf (past-head vs ls t h a e w) = render head vs ++ (renderLitters ls ++ wrongAfter w)
+beforeOf (past-head vs top ls t h b a e w) = top ++ (renderLitters ls ++ wrongAfter w)
 
 wrong-feeds : {n start : ℕ} {t : List ℕ} {k : ℕ} → (w : Wrong n start t k) → k ≡ 8 + n + feeds (wrongAfter w)
 unfolding feeds
@@ -39,8 +39,8 @@ wrong-feeds {n = n} {start = start} (more c u e q) = rw (render-feeds rows (n �
 pub line-number : {text : List ℕ} {k : ℕ} → (d : Departure text k) → length text ≤ 8192 → k ≡ 1 + feeds (beforeOf d)
 line-number (too-long h e) l = absurd (omega arith)
 line-number (in-head h d) l = feeds-before head-sound d
-line-number (past-head vs ls t h a e w) l =
-    rw (feeds-append (render head vs) (renderLitters ls ++ wrongAfter w), feeds-append (renderLitters ls) (wrongAfter w), render-feeds head vs, litters-feed ls) (omega (arith, forms-feed, wrong-feeds w))
+line-number (past-head vs top ls t h b a e w) l =
+    rw (feeds-append top (renderLitters ls ++ wrongAfter w), feeds-append (renderLitters ls) (wrongAfter w), spells-feeds b, litters-feed ls) (omega (arith, forms-feed, wrong-feeds w))
 
 wrong-text : {n start : ℕ} {t : List ℕ} {k : ℕ} → (w : Wrong n start t k) → (u : List ℕ) × (t ≡ wrongAfter w ++ u)
 wrong-text {t = t} (no-line e p q) = (t, refl)
@@ -50,7 +50,7 @@ wrong-text (more c u e q) = (c ∷ u, q)
 pub text-before-line : {text : List ℕ} {k : ℕ} → (d : Departure text k) → (t : List ℕ) × (text ≡ beforeOf d ++ t)
 text-before-line {text = text} (too-long h e) = (text, refl)
 text-before-line (in-head h d) = text-before d
-text-before-line (past-head vs ls t h a e w) =
+text-before-line (past-head vs top ls t h b a e w) =
     let r = wrong-text w in
     let inner : renderLitters ls ++ t ≡ (renderLitters ls ++ wrongAfter w) ++ r .0 = ap (λ x. renderLitters ls ++ x) (r .1) ∙ sym (append-assoc (renderLitters ls) (wrongAfter w) (r .0)) in
-    (r .0, e ∙ ap (λ x. render head vs ++ x) inner ∙ sym (append-assoc (render head vs) (renderLitters ls ++ wrongAfter w) (r .0)))
+    (r .0, e ∙ ap (λ x. top ++ x) inner ∙ sym (append-assoc top (renderLitters ls ++ wrongAfter w) (r .0)))

@@ -24,7 +24,7 @@ pub data Asked : Type 0 where
   asked : List ℕ → List (List ℕ) → Asked
   form : ℕ → Asked
 
--- ---- rendering: a request's one text
+-- ---- rendering: the text of a request with each f64 in hexadecimal
 
 unfoldable pub renderLitters : List (List ℕ) → List ℕ
 renderLitters [] = []

@@ -19,7 +19,7 @@ by-units (inf s) p = absurd p
 by-units (fin true m e) p = absurd p
 by-units (fin false m e) p = refl
 
-same-units : (x y : Float) → T (fits binary64 x) → T (fits binary64 y) → T (plus x) → T (plus y) → units x ≡ units y → x ≡ y
+pub same-units : (x y : Float) → T (fits binary64 x) → T (fits binary64 y) → T (plus x) → T (plus y) → units x ≡ units y → x ≡ y
 same-units x y f g p q e =
     sym (ofBits-toBits binary64 x f) ∙ ap (λ (b : ℕ). ofBits binary64 b) (by-units x p ∙ ap bits-of-units e ∙ sym (by-units y q)) ∙ ofBits-toBits binary64 y g
 

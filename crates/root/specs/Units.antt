@@ -87,7 +87,7 @@ bits-read x f p =
     let e = ofBits-toBits binary64 x f in
     subst (λ (y : Float). Read (toBits binary64 x) (units y)) e (read-at (toBits binary64 x) (subst (λ (y : Float). T (positive y)) (sym e) p))
 
-write : (k t : ℕ) → k < 2046 → HasValue (ofFields binary64 false (suc k) t) false (value (suc k) t) (2 ^ 1074)
+pub write : (k t : ℕ) → k < 2046 → HasValue (ofFields binary64 false (suc k) t) false (value (suc k) t) (2 ^ 1074)
 unfolding ofFields
 write k t h = rw (ne-eqb (suc k) 2047 (λ e. omega (arith, h, e))) (odd-sign 53 false (2 ^ 52 + t) k 1074)
 

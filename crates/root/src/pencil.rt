@@ -15,13 +15,14 @@ pub struct Row {
     pub root: u64,
 }
 
-fn digit_of(goes: bool) -> u64
+// The digit of a step, and what it takes away: a choice as a call leaves no place where ways meet, and no jump in the loop.
+pub fn digit_of(goes: bool) -> u64
     ensures { λ r. ⌜ (r ≡ cond goes 1 0) × (r ≤ 1) ⌝ }
 {
     if goes { 1 } else { 0 }
 }
 
-fn taken_of(goes: bool, trial: u64) -> u64
+pub fn taken_of(goes: bool, trial: u64) -> u64
     ensures { λ r. ⌜ r ≡ cond goes trial 0 ⌝ }
 {
     if goes { trial } else { 0 }

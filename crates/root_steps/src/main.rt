@@ -109,7 +109,7 @@ fn answer(number: u64, line: &[u8], n: usize) {
             crate::say::hex(b": ", b);
             answer_bits(b);
         }
-        Number::Missing => crate::say::words(b": no number of 16 hex digits\n"),
+        Number::Missing => crate::say::words(b": no decimal and no 16 hex digits\n"),
     }
 }
 

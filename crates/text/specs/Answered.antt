@@ -7,8 +7,8 @@ use lib.ListN.{length}
 use Rattle.objective.specs.Litters.{countOf}
 use Rattle.fit.specs.Fit.{fitOf}
 use Rattle.fit.specs.Refused.{many-refused}
-use Rattle.read.specs.Request.{Asked, asked, form, renderRequest, readRequest}
-use Rattle.read.specs.BothWays.{Asks, request-read-back}
+use Rattle.read.specs.Request.{Asked, asked, form, readRequest}
+use Rattle.read.specs.BothWays.{SpellsRequest, request-read-back}
 use Rattle.read.specs.Departure.{Departure, departure-is-form}
 use Rattle.print.specs.Answer.{refusalText, fitText}
 use Rattle.print.specs.Room.{room, refusal-fits, answer-fits}
@@ -32,9 +32,9 @@ pub many-answer : (vs : List ℕ) (ls : List (List ℕ)) → 128 < length ls →
 unfolding fitText
 many-answer vs ls h = let m : 128 < countOf (littersOf ls) = omega (arith, count-litters ls) in rw (many-refused (requestIn vs) (littersOf ls) m)
 
-pub many-lines : (vs : List ℕ) (ls : List (List ℕ)) → Asks vs ls → length (renderRequest vs ls) ≤ 8192 → 128 < length ls → answerText (renderRequest vs ls) ≡ refusalText 1 0 0
+pub many-lines : (text vs : List ℕ) (ls : List (List ℕ)) → SpellsRequest vs ls text → length text ≤ 8192 → 128 < length ls → answerText text ≡ refusalText 1 0 0
 unfolding answerText
-many-lines vs ls a n h = ap answerTo (request-read-back vs ls a n) ∙ many-answer vs ls h
+many-lines text vs ls a n h = ap answerTo (request-read-back text vs ls a n) ∙ many-answer vs ls h
 
 by-asked : (q : Asked) → length (answerTo q) ≤ room
 by-asked (form line) = omega (arith, refusal-fits 4 0 line)

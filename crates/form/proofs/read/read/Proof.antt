@@ -5,7 +5,8 @@ use native.Mathlib.Omega.{arith}
 use native.Mathlib.Nat.{zero-add}
 use lib.ListN.{length, getD, take, drop}
 use Rattle.form.specs.Form.{holes}
-use Rattle.form.specs.Read.{departs, readField}
+use Rattle.form.specs.Field.{departs}
+use Rattle.form.specs.Read.{readField}
 use borrow.Author.Needs.{needs}
 use Rattle.form.proofs.ReadLaws.{kept-none, says-value, says-departs, read-stops, read-ends, none-left, no-feeds-left, places-filled, Left, left-again, answer-departs, answer-done}
 use Rattle.form.proofs.read.read.Statement.{statement}

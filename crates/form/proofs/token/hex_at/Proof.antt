@@ -7,7 +7,7 @@ use native.Mathlib.Omega.{arith}
 use lib.ListN.{length, getD, drop}
 use borrow.Author.Tests.{not-true, not-false}
 use Rattle.num.specs.Left.{left-one, left-none}
-use Rattle.form.specs.Read.{Field, found, departs, isHex, hexValue, readHex}
+use Rattle.form.specs.Field.{Field, found, departs, isHex, hexValue, readHex}
 use borrow.Author.Needs.{needs}
 use Rattle.form.proofs.TokenLaws.{hex-past, hex-not, hex-is, value-small, hex-room, hex-fits}
 use Rattle.form.proofs.token.hex_at.Statement.{statement}

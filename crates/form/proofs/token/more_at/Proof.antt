@@ -6,7 +6,7 @@ use Prim.Native.Nat.{ℕ, _+_, _-_, _*_, _^_, _≤_, _<_}
 use native.Mathlib.Omega.{arith}
 use lib.ListN.{length, getD, drop}
 use borrow.Author.Tests.{not-true, not-false}
-use Rattle.form.specs.Read.{Field, found, departs, isDigit, readMore}
+use Rattle.form.specs.Field.{Field, found, departs, isDigit, readMore}
 use borrow.Author.Needs.{needs}
 use Rattle.form.proofs.TokenLaws.{past, more-past, more-not, more-large, more-is}
 use Rattle.form.proofs.token.more_at.Statement.{statement}

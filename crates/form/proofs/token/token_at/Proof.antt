@@ -11,6 +11,6 @@ token-at-spec =
     (λ c κs. search needs)
     (λ c. rw (field-count _ _ (c .before .if1 .taken)) (c .count-at .ensures))
     (λ c κs. search needs)
-    (λ c. rw (field-bits _ _ (c .before .before .if1 .left) (c .before .if2 .taken)) (c .hex-at .ensures))
+    (λ c. rw (field-bits _ _ (c .before .before .if1 .left) (c .before .if2 .taken)) (c .value-at .ensures))
     (λ c κs. search needs)
     (λ c. rw (field-byte _ _ (c .before .before .if1 .left) (c .before .if2 .left)) (c .byte-at .ensures)))
