@@ -133,7 +133,7 @@ uint64_t probit_objective(const double *point, size_t point_len, const uint32_t 
 
 /* ---- The group summary.
  *
- * counts (PROBIT_SUMMARY_COUNTS or more): of group 0 the litters, affected pups, all pups, and extreme litters, those with none affected, at the places below;
+ * counts (PROBIT_SUMMARY_COUNTS or more): of group 0 the litters, affected pups, all pups, and extreme litters, those with none or all of their pups affected, at the places below;
  *   the same of group 1, PROBIT_SUMMARY_GROUP places on.
  * Litters that are not valid give PROBIT_INVALID_INPUT and zeros; a buffer that is too short PROBIT_INVALID_INPUT, and nothing is written. */
 #define PROBIT_SUMMARY_COUNTS 8

@@ -1,5 +1,5 @@
 -- The group summary: for each group the number of litters, successes, trials and extreme litters.
-use mathlib.Core.Bool.{Bool, cond}
+use mathlib.Core.Bool.{Bool, _||_, cond}
 use mathlib.Core.List.{List}
 use Prim.Native.Nat.{ℕ, zero, suc, _+_, _<_}
 use lib.Dec.{eqb}
@@ -8,9 +8,9 @@ use Rattle.objective.specs.Litters.{countOf, successesAt, totalAt, groupAt, val
 use Rattle.summary.specs.declared.GroupCounts.{GroupCounts}
 use Rattle.summary.specs.declared.Summary.{Summary}
 
--- a litter with no successes
+-- a litter with no successes, or with no failures
 unfoldable pub extremeOf : ℕ → ℕ → Bool
-extremeOf successes total = eqb successes 0
+extremeOf successes total = eqb successes 0 || eqb successes total
 
 abbrev pub noCounts : GroupCounts
 noCounts = record { litters = 0; successes = 0; trials = 0; extreme = 0 }

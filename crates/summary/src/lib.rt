@@ -22,7 +22,7 @@ pub struct Summary {
 pub fn extreme(successes: u32, total: u32) -> bool
     ensures { λ r. ⌜ r ≡ extremeOf successes total ⌝ }
 {
-    successes == 0
+    num::either(successes == 0, successes == total)
 }
 
 fn tally(t: bool) -> u64

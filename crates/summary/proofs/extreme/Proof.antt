@@ -1,4 +1,4 @@
--- `extreme` meets its contract, by its definition.
+-- `extreme` meets its contract, by its definition and what its callee ensures.
 use Rattle.summary.specs.Summary.{extremeOf}
 use borrow.Author.Needs.{needs}
 use Rattle.summary.proofs.extreme.Statement.{statement}
@@ -9,4 +9,4 @@ unfolding extremeOf
 returns c = search needs
 
 pub extreme-spec : {M : Type 1} → statement M
-extreme-spec = tie.close (tie.spec returns)
+extreme-spec = tie.close (tie.spec (λ c κs. search needs) returns)
