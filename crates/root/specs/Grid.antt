@@ -3,13 +3,13 @@
 use mathlib.Core.Path.{_≡_, sym, ap, _∙_, subst}
 use mathlib.Core.Bool.{Bool, true, false, not, _&&_}
 use Prim.Native.Nat.{ℕ, zero, suc, _+_, _-_, _*_, _/_, _%_, _^_, _≤_, _<_}
-use native.Mathlib.Nat.{le-trans, le-of-suc-le-suc, mul-assoc, mul-left-comm, mul-one, mul-le-mul, mul-le-mul-right, lt-of-mul-lt-mul-right, lt-of-lt-of-le, lt-of-not-le, not-le-of-lt, mul-div-cancel, pow-succ', zero-mul, zero-div, div-one}
+use native.Mathlib.Nat.{le-trans, le-of-suc-le-suc, mul-assoc, mul-left-comm, mul-one, mul-le-mul, mul-le-mul-right, lt-of-mul-lt-mul-right, lt-of-lt-of-le, lt-of-not-le, not-le-of-lt, mul-div-cancel, pow-succ', zero-mul, zero-div}
 use native.Mathlib.Omega.{arith}
 use lib.IntN.{ℤ, pos, negsuc}
 use lib.Dec.{T, leb, ltb, eqb, leb→le, ltb→lt, nleb→lt}
-use lib.Pow.{pow-add, pow-pos, pow-mono, pow-lt}
+use lib.Pow.{pow-add, pow-mono, pow-lt}
 use lib.Ieee.{Float, nan, inf, fin, binary64, up, down, fits}
-use lib.Ieee.Fits.{and-l, and-r}
+use lib.Ieee.Fits.{and-l, and-r, down-pos}
 use Rattle.root.specs.Root.{units, plus}
 
 pub record Grid (q H n : ℕ) : Type 0 where
@@ -36,11 +36,11 @@ finer n q H g f =
     }
 
 -- n is m · 2^t with m of at most 53 digits
-record Shape (n : ℕ) : Type 0 where
-  m : ℕ
-  t : ℕ
-  few : m < 2 ^ 53
-  is : n ≡ m * 2 ^ t
+pub record Shape (n : ℕ) : Type 0 where
+  pub m : ℕ
+  pub t : ℕ
+  pub few : m < 2 ^ 53
+  pub is : n ≡ m * 2 ^ t
 
 coarse : (m t j : ℕ) → suc j ≤ t → m * 2 ^ t ≡ 2 * (m * 2 ^ (t - suc j)) * 2 ^ j
 coarse m t j h =
@@ -61,21 +61,23 @@ grid n q j s g = go (leb (suc j) (s .t)) (leb→le (suc j) (s .t)) (nleb→lt (s
         let few : s .m ≤ 2 ^ 53 - 1 = omega (arith, s .few) in
         finer n q (2 ^ j) g (subst (λ (x : ℕ). x ≤ (2 ^ 53 - 1) * 2 ^ j) (sym (s .is)) (mul-le-mul few (pow-mono (le-of-suc-le-suc (k tt)))))
 
-shape-of : (m : ℕ) (e : ℤ) → m < 2 ^ 53 → down e ≤ 2 ^ 1074 → Shape (m * up e * 2 ^ 1074 / down e)
-shape-of m (pos k) h l =
-    record { m = m; t = k + 1074; few = h; is = div-one (m * 2 ^ k * 2 ^ 1074) ∙ mul-assoc m (2 ^ k) (2 ^ 1074) ∙ ap (λ (x : ℕ). m * x) (sym (pow-add 2 k 1074)) }
-shape-of m (negsuc k) h l =
+-- m · 2^e, no finer than a unit, is a whole number of units: m · 2^t
+pub record Whole (m : ℕ) (e : ℤ) : Type 0 where
+  pub t : ℕ
+  pub is : m * up e * 2 ^ 1074 ≡ m * 2 ^ t * down e
+
+pub whole : (m : ℕ) (e : ℤ) → down e ≤ 2 ^ 1074 → Whole m e
+whole m (pos k) l = record { t = k + 1074; is = mul-assoc m (2 ^ k) (2 ^ 1074) ∙ ap (λ (x : ℕ). m * x) (sym (pow-add 2 k 1074)) ∙ sym (mul-one (m * 2 ^ (k + 1074))) }
+whole m (negsuc k) l =
     let t = 1074 - suc k in
     let small : suc k ≤ 1074 = le-of-suc-le-suc (lt-of-not-le (λ (g : 1075 ≤ suc k). not-le-of-lt (pow-lt {i = 1074} {j = suc k} g) l)) in
     let e : t + suc k ≡ 1074 = omega arith in
-    record {
-      m = m;
-      t = t;
-      few = h;
-      is = ap (λ (x : ℕ). x / 2 ^ suc k) (ap (λ (x : ℕ). x * 2 ^ 1074) (mul-one m) ∙ ap (λ (x : ℕ). m * x) (ap (λ (x : ℕ). 2 ^ x) (sym e) ∙ pow-add 2 t (suc k)) ∙ sym (mul-assoc m (2 ^ t) (2 ^ suc k))) ∙ mul-div-cancel (m * 2 ^ t) (pow-pos (suc k));
-    }
+    record { t = t; is = ap (λ (x : ℕ). x * 2 ^ 1074) (mul-one m) ∙ ap (λ (x : ℕ). m * x) (ap (λ (x : ℕ). 2 ^ x) (sym e) ∙ pow-add 2 t (suc k)) ∙ sym (mul-assoc m (2 ^ t) (2 ^ suc k)) }
 
-shape : (y : Float) → T (fits binary64 y) → T (plus y) → Shape (units y)
+shape-of : (m : ℕ) (e : ℤ) → m < 2 ^ 53 → down e ≤ 2 ^ 1074 → Shape (m * up e * 2 ^ 1074 / down e)
+shape-of m e h l = let w = whole m e l in record { m = m; t = w .t; few = h; is = ap (λ (x : ℕ). x / down e) (w .is) ∙ mul-div-cancel (m * 2 ^ w .t) (down-pos e) }
+
+pub shape : (y : Float) → T (fits binary64 y) → T (plus y) → Shape (units y)
 unfolding fits
 shape nan f p = absurd p
 shape (inf s) f p = absurd p

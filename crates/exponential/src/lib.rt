@@ -1,0 +1,1 @@
+// How far the exponential's steps are from its power series, near zero. Theorems only.

@@ -1,0 +1,5 @@
+pub mod Gap
+pub mod Units
+pub mod Magnitude
+pub mod Rounded
+pub mod Beside

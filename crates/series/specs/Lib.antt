@@ -1,0 +1,4 @@
+pub mod Fraction
+pub mod Polynomial
+pub mod Exponential
+pub mod Enclosure
