@@ -9,6 +9,7 @@ from decimal import Decimal
 
 ROOT = os.path.dirname(os.path.dirname(os.path.abspath(__file__)))
 OURS = "target/oracle/oracle-ours"
+UNALTERED = "target/oracle/oracle-unaltered"
 PLAIN = "target/oracle/oracle-plain"
 REPLAY = "target/oracle/replay"
 # The most that a request may ask for.
@@ -64,6 +65,10 @@ def run(command, texts):
 
 def oracle(texts):
     return run([OURS, "fit", "--framed"], texts)
+
+
+def unaltered(texts):
+    return run([UNALTERED, "fit", "--framed"], texts)
 
 
 def plain(texts):

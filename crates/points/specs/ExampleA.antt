@@ -15,12 +15,13 @@ use Rattle.elementary.specs.Exp.{expOf, expLow, expBelow, expAbove, expFinish, 
 use Rattle.elementary.specs.Log.{logOf, logSmall, logParts}
 use Rattle.elementary.specs.Erfc.{erfcOf, erfcPos, erfcTail}
 use Rattle.elementary.specs.Lgamma.{lgammaOf, lgammaBelowOne, lgammaByProduct, productOf, productFrom}
+use Rattle.factorial.specs.Factorial.{logFactorialOf}
 use Rattle.work.specs.declared.Ending.the-variants.{Answered, InvalidInput, WorkBudget}
 use Rattle.work.specs.Work.{_>>=_, metered}
 use Rattle.normal.specs.Normal.{normalCentre, normalOf}
 use Rattle.normal.specs.Conditional.{combinedOf, conditionalOf}
 use Rattle.posterior.specs.Integrand as integrand
-use Rattle.row.specs.Coefficient.{coefficientOf}
+use Rattle.coefficient.specs.Coefficient.{coefficientOf}
 use Rattle.row.specs.Share.{share}
 use Rattle.objective.specs.Litters as litters
 use Rattle.objective.specs.Objective.{rows, objective}
@@ -71,5 +72,5 @@ answer-a =
 -- four evaluations are enough; three give WorkBudget with count 3; no iterations are InvalidInput
 pub example-a-is :
     (fitOf (example-a 10 4) four-litters ≡ answer-a) × (fitOf (example-a 10 3) four-litters ≡ refusedOf WorkBudget 3) × (fitOf (example-a 0 4) four-litters ≡ refusedOf InvalidInput 0)
-unfolding fitOf limitedFit fit sdsOf activeOf projectOf normOf admits twoEach ofGroup validControls validSds validMeans validSd validMean through descend objective rows litters.validPoint litters.validVariance litters.validMean litters.validLitters litters.validFrom litters.validLitter share coefficientOf integrand.aloneOf integrand.atOf integrand.integrandOf conditionalOf combinedOf normalOf normalCentre _>>=_ metered lgammaOf lgammaByProduct lgammaBelowOne productOf productFrom erfcOf erfcPos erfcTail erfcRow erfcRows logOf logParts logSmall logRow logRows expOf expLow expBelow expAbove expFinish expFar expRow expRows sqrtOf absOf isFinite maxOf minOf clampOf powiOf powiFrom leadingZeros toBits add sub mul div neg lt le eq ne ofBits ofInt
+unfolding fitOf limitedFit fit sdsOf activeOf projectOf normOf admits twoEach ofGroup validControls validSds validMeans validSd validMean through descend objective rows litters.validPoint litters.validVariance litters.validMean litters.validLitters litters.validFrom litters.validLitter share coefficientOf logFactorialOf integrand.aloneOf integrand.atOf integrand.integrandOf conditionalOf combinedOf normalOf normalCentre _>>=_ metered lgammaOf lgammaByProduct lgammaBelowOne productOf productFrom erfcOf erfcPos erfcTail erfcRow erfcRows logOf logParts logSmall logRow logRows expOf expLow expBelow expAbove expFinish expFar expRow expRows sqrtOf absOf isFinite maxOf minOf clampOf powiOf powiFrom leadingZeros toBits add sub mul div neg lt le eq ne ofBits ofInt
 example-a-is = (refl, refl, refl)

@@ -16,6 +16,7 @@ use Rattle.elementary.specs.Erfc.{erfcOf, erfcPos}
 use Rattle.elementary.specs.Lgamma.{lgammaOf}
 use Rattle.elementary.specs.Cos.{cosOf}
 use Rattle.elementary.specs.Hypot.{hypotOf}
+use Rattle.factorial.specs.Factorial.{logFactorialOf}
 use Rattle.work.specs.Ended.{isRefused, numberOf, reasonOf}
 use Rattle.normal.specs.declared.mills.LogMills.{LogMills}
 use Rattle.normal.specs.declared.twins.Twins.{Twins}
@@ -29,7 +30,7 @@ use Rattle.posterior.specs.Lent.{evaluatedOf}
 use Rattle.mode.specs.Bracket.{endsOf, checkedOf}
 use Rattle.mode.specs.Mode.{modeOf}
 use Rattle.tail.specs.Tail.{tailBoundOf, rangeOf, goalOf}
-use Rattle.row.specs.Coefficient.{coefficientOf}
+use Rattle.coefficient.specs.Coefficient.{coefficientOf}
 use Rattle.row.specs.Peak.{locatedOf, limitsOf}
 use Rattle.panel.specs.Panel.{sidesOf}
 use Rattle.quadrature.specs.Quadrature.{integralOf}
@@ -101,8 +102,8 @@ pub of-num : One1 absOf × One1 isFinite × One2 maxOf × One2 minOf × One3 cla
 of-num = (one1 _, one1 _, one2 _, one2 _, one3 _, one2 _, one1 _, one2 _, one0 _, one0 _)
 
 -- the root's statement by squares has a theorem of its own, `one-root`
-pub of-elementary : One1 sqrtOf × One1 expRow × One1 logRow × One1 erfcRow × One1 expOf × One2 expLow × One1 logOf × One2 logParts × One1 erfcOf × One1 erfcPos × One1 lgammaOf × One1 cosOf × One2 hypotOf
-of-elementary = (one1 _, one1 _, one1 _, one1 _, one1 _, one2 _, one1 _, one2 _, one1 _, one1 _, one1 _, one1 _, one2 _)
+pub of-elementary : One1 sqrtOf × One1 expRow × One1 logRow × One1 erfcRow × One1 expOf × One2 expLow × One1 logOf × One2 logParts × One1 erfcOf × One1 erfcPos × One1 lgammaOf × One1 cosOf × One2 hypotOf × One1 logFactorialOf
+of-elementary = (one1 _, one1 _, one1 _, one1 _, one1 _, one2 _, one1 _, one2 _, one1 _, one1 _, one1 _, one1 _, one2 _, one1 _)
 
 -- the decimal's statement by whole numbers has `one-decimal`
 pub of-decimal : One3 (λ (minus : Bool) (digits places : ℕ). round binary64 minus digits (10 ^ places))

@@ -16,6 +16,7 @@ use Rattle.work.specs.Work.{metered, _>>=_}
 use Rattle.work.specs.Metered.{past, branch, gives}
 use Rattle.normal.specs.declared.moments.ConditionalLog.{ConditionalLog}
 use Rattle.normal.specs.Conditional.{conditionalOf}
+use Rattle.coefficient.specs.Coefficient.{coefficientOf}
 use Rattle.legendre.specs.declared.Pair.{Pair}
 use Rattle.posterior.specs.declared.integrand.Posterior.{Posterior}
 use Rattle.mode.specs.declared.Mode.{Mode}
@@ -25,7 +26,6 @@ use Rattle.mode.specs.Mode.{noPeak}
 use Rattle.tail.specs.Tail.{noSpan}
 use Rattle.quadrature.specs.declared.Integral.{Integral}
 use Rattle.row.specs.declared.share.Row.{Row}
-use Rattle.row.specs.Coefficient.{coefficientOf}
 use Rattle.row.specs.Peak.{locatedOf, limitsOf}
 use Rattle.quadrature.specs.Quadrature.{integralOf, integralFrom, noSummed}
 use Rattle.row.specs.Share.{gradientOf, hessianOf, byTotal, refusalOf, aloneRowOf, summedOf, overOf, spread, spreadOf, share, rowOf}

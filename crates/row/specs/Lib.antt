@@ -1,4 +1,3 @@
-pub mod Coefficient
 pub mod Peak
 pub mod Share
 pub mod Bound

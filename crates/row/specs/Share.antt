@@ -12,6 +12,7 @@ use Rattle.work.specs.declared.Ending.the-variants.{Answered}
 use Rattle.work.specs.declared.QuadratureEvaluations.{QuadratureEvaluations}
 use Rattle.work.specs.Ended.{isRefused}
 use Rattle.work.specs.Work.{Work, ret, eval, _>>=_, metered, told}
+use Rattle.coefficient.specs.Coefficient.{coefficientOf}
 use Rattle.legendre.specs.declared.Pair.{Pair}
 use Rattle.posterior.specs.declared.integrand.Posterior.{Posterior}
 use Rattle.posterior.specs.declared.integrand.Point.{Point}
@@ -19,7 +20,6 @@ use Rattle.posterior.specs.Integrand.{Eval, inside, alone, at, here, from}
 use Rattle.panel.specs.declared.Hump.{Hump}
 use Rattle.quadrature.specs.declared.Integral.{Integral}
 use Rattle.row.specs.declared.share.Row.{Row}
-use Rattle.row.specs.Coefficient.{coefficientOf}
 use Rattle.row.specs.Peak.{peaked, spanned, scaleOf}
 use Rattle.panel.specs.Panel.{noSums}
 use Rattle.quadrature.specs.Quadrature.{rules, integralOf}

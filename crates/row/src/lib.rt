@@ -1,5 +1,4 @@
 // One litter's share of the objective: its integral over the litter's own effect, by quadrature about the mode.
-pub mod coefficient;
 pub mod peak;
 pub mod share;
 

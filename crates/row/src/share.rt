@@ -147,7 +147,7 @@ pub fn row_objective(
 ) -> Row
     ensures { λ r. ⌜ r ≡ rowOf litter successes total rule mean variance limit ⌝ }
 {
-    let choose = crate::coefficient::coefficient(successes, total);
+    let choose = coefficient::coefficient(successes, total);
     if variance == 0.0 {
         return alone(litter, successes, total, mean, choose, limit);
     }

@@ -1,0 +1,4 @@
+pub mod Coefficient
+pub mod Tied
+pub mod Exchanged
+pub mod Nothing

@@ -1,0 +1,4 @@
+pub mod Factorial
+pub mod Fits
+pub mod Computed
+pub mod Above
