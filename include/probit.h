@@ -4,7 +4,7 @@
  * the whole call; no output overlaps an input or the other output. Nothing before or after the given elements is read or written.
  * With length 0 nothing is read or written at all, and the pointer may be null.
  *
- * Every value of every argument is answered: no call fails, none keeps state, any number of threads may call at once.
+ * Every value of every argument is answered: no call fails, none keeps state but in what the host lends, any number of threads may call at once.
  * The f64 arithmetic is the default one: round to nearest, subnormals kept, no exception trapped. docs/EMBEDDING.md says what a host has to keep.
  *
  * Order: version, limits, what answers are made of, then an entry at a time with its own lengths and places. Numbers are never given a second
@@ -23,7 +23,7 @@ extern "C" {
 /* ---- The version of this interface: 1000 times the first number, and the second. The second rises when something is added, the first when something
  * here changes or goes. A library fits a host if its first number is the header's and its version is no less:
  *   probit_version() / 1000 == PROBIT_VERSION / 1000 && probit_version() >= PROBIT_VERSION */
-#define PROBIT_VERSION 1000
+#define PROBIT_VERSION 1001
 
 uint64_t probit_version(void);
 
@@ -155,6 +155,51 @@ uint64_t probit_summary(const uint32_t *litters, size_t litters_len, uint64_t *c
 #define PROBIT_TEXT 512
 
 size_t probit_text(const uint8_t *request, size_t request_len, uint8_t *out, size_t out_len);
+
+/* ---- A request that arrives in parts: probit_part for each, empty ones too, then a finishing call: probit_answer for the answer's bytes,
+ * probit_finish for the request itself, or one after the other. Cut the bytes anywhere: both say what they say of the joined bytes.
+ *
+ * The state is the host's: held (PROBIT_HELD bytes, one more than a request may have) and counts (PROBIT_PART_COUNTS), both set to zero to begin,
+ * and again for the next request. A state that no call made so is read as what it says: a count of bytes above PROBIT_HELD stands for all of them,
+ * and a mark other than 0 for a finished text. No state leads outside the slices.
+ *
+ * A finishing call sets the mark. Finishing again repeats the answer. A part after it is PROBIT_FORM, with line 0, for that call.
+ * A state of another size is PROBIT_INVALID_INPUT, of probit_answer the value 0. In each of these cases nothing is written. */
+#define PROBIT_HELD 8193
+#define PROBIT_PART_COUNTS 2
+
+/* places in counts */
+enum { PROBIT_PART_BYTES, PROBIT_PART_FINISHED };
+
+/* PROBIT_ANSWERED where the part was taken. */
+uint64_t probit_part(uint8_t *held, size_t held_len, uint64_t *counts, size_t counts_len, const uint8_t *bytes, size_t bytes_len);
+
+/* The value, out and PROBIT_TEXT as those of probit_text. */
+size_t probit_answer(const uint8_t *held, size_t held_len, uint64_t *counts, size_t counts_len, uint8_t *out, size_t out_len);
+
+/* PROBIT_ANSWERED where the text has the form, else PROBIT_FORM. Whether the request is a valid one, the fit says.
+ *
+ * request (PROBIT_REQUEST_NUMBERS or more): at the places below the line at which the text departs, the number of litters, the bounds in the order of
+ *   probit_fit, the three limits and the tolerance; an f64 by its bits. Beside PROBIT_FORM zeros but for the line; else the line is 0.
+ * litters (PROBIT_REQUEST_LITTERS or more): the litters in the order of probit_fit, and zeros; of more than PROBIT_MAX_LITTERS the first of them.
+ *   Beside PROBIT_FORM those of the lines before the departure.
+ * What stands after these places is left as it was. Where a buffer is too short, the value is PROBIT_INVALID_INPUT and nothing is written. */
+#define PROBIT_REQUEST_NUMBERS 18
+#define PROBIT_REQUEST_LITTERS 384 /* PROBIT_LITTER_NUMBERS for each of PROBIT_MAX_LITTERS */
+
+/* places in request, the first of each */
+enum {
+    PROBIT_REQUEST_LINE = 0,
+    PROBIT_REQUEST_COUNT = 1, /* of litters */
+    PROBIT_REQUEST_BOUNDS = 2,
+    PROBIT_REQUEST_EVALUATIONS = 14,
+    PROBIT_REQUEST_ITERATIONS = 15,
+    PROBIT_REQUEST_QUADRATURE = 16,
+    PROBIT_REQUEST_TOLERANCE = 17
+};
+
+uint64_t probit_finish(const uint8_t *held, size_t held_len, uint64_t *counts, size_t counts_len, uint64_t *request, size_t request_len,
+                       uint32_t *litters, size_t litters_len);
 
 #ifdef __cplusplus
 }

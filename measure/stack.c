@@ -31,6 +31,16 @@ static void objective(void) {
 static void summary(void) { probit_summary(litters, litters_len, counts, PROBIT_SUMMARY_COUNTS); }
 static void text(void) { probit_text((uint8_t *)request, request_len, out, sizeof out); }
 
+/* a state that is lent, and what a finishing call fills */
+static uint8_t held[PROBIT_HELD];
+static uint64_t parts[PROBIT_PART_COUNTS], asked[PROBIT_REQUEST_NUMBERS];
+static uint32_t rows[PROBIT_REQUEST_LITTERS];
+
+static void begin(void) { memset(held, 0, sizeof held), memset(parts, 0, sizeof parts); }
+static void part(void) { probit_part(held, PROBIT_HELD, parts, PROBIT_PART_COUNTS, (uint8_t *)request, request_len); }
+static void finish(void) { probit_finish(held, PROBIT_HELD, parts, PROBIT_PART_COUNTS, asked, PROBIT_REQUEST_NUMBERS, rows, PROBIT_REQUEST_LITTERS); }
+static void answer(void) { probit_answer(held, PROBIT_HELD, parts, PROBIT_PART_COUNTS, out, sizeof out); }
+
 static size_t taken(void (*f)(void)) {
     size_t clean = 0;
     memset(stack, PAINT, sizeof stack);
@@ -85,7 +95,8 @@ static void study(size_t n, double mean, double sd, uint64_t limit) {
 static const struct {
     const char *name;
     void (*f)(void);
-} functions[] = {{"probit_fit", fit}, {"probit_objective", objective}, {"probit_summary", summary}, {"probit_text", text}};
+} functions[] = {{"probit_fit", fit}, {"probit_objective", objective}, {"probit_summary", summary}, {"probit_text", text},
+                 {"probit_part", part}, {"probit_finish", finish}, {"probit_answer", answer}};
 
 static const struct {
     size_t n;
@@ -103,6 +114,9 @@ int main(void) {
         for (size_t j = 0; j < sizeof studies / sizeof *studies; j++) {
             size_t n;
             study(studies[j].n, studies[j].mean, studies[j].sd, studies[j].limit);
+            begin();
+            if (functions[i].f == finish || functions[i].f == answer)
+                part();
             n = taken(functions[i].f);
             if (i == 0 && end != studies[j].end) {
                 printf("study %zu ends with %lu\n", j, end);

@@ -6,7 +6,7 @@ use native.Mathlib.Omega.{arith}
 use borrow.Author.Tests.{ltb-true, ltb-false}
 use borrow.Table.Steps.{cases}
 use lib.Dec.{ltb}
-use lib.ListN.{length, drop, length-drop}
+use lib.ListN.{length, take, drop, length-drop}
 use Rattle.num.specs.F64.{bitsOf}
 use Rattle.fit.specs.declared.report.Fit.{Fit}
 use Rattle.form.specs.Digits.{digits}
@@ -18,6 +18,8 @@ use Rattle.form.specs.declared.token.Token.the-variants.{Value, Departs}
 use Rattle.form.specs.Says.{Says, valuesOf}
 use Rattle.read.specs.Request.{readRequest}
 use Rattle.read.specs.Rows.{fillRequest, askingOf}
+use Rattle.parts.specs.declared.by_value.Reader.{Reader}
+use Rattle.parts.specs.ByValue.{takenOf, finishedOf}
 use Rattle.render.specs.Written.{written}
 use Rattle.print.specs.Answer.{refusalText, fitText}
 use Rattle.print.specs.Room.{room}
@@ -48,6 +50,10 @@ of-form = (one1 _, one1 _, one1 _, one1 _, one4 _)
 -- the answer, and the litters' buffer
 pub of-read : One1 (λ (text : List ℕ). askingOf 0 (readRequest text)) × One2 fillRequest
 of-read = (one1 _, one2 _)
+
+-- the reader of parts by value: the reader after a part and after finishing, and what is read of what it keeps
+pub of-parts : One2 takenOf × One1 finishedOf × One1 (λ (r : Reader). askingOf 0 (readRequest (take (r .n) (r .bytes)))) × One2 (λ (b : List ℕ) (r : Reader). fillRequest b (take (r .n) (r .bytes)))
+of-parts = (one2 _, one1 _, one1 _, one2 _)
 
 -- of `digits`, `text` and `put` the place after, and the buffer
 pub of-render :

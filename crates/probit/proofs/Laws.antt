@@ -1,15 +1,15 @@
 -- The laws of the exported functions.
 use mathlib.Core.Path.{_≡_, refl, sym, _∙_}
-use mathlib.Core.Bool.{Bool, true, false, not, _&&_}
+use mathlib.Core.Bool.{Bool, true, false, not, _&&_, and-eq-true-iff}
 use mathlib.Core.List.{List, []}
-use Prim.Native.Nat.{ℕ, _≤_}
+use Prim.Native.Nat.{ℕ, _≤_, _<_}
 use native.Mathlib.Omega.{arith}
 use borrow.Author.Tests.{eqb-true, leb-true, leb-false}
 use lib.Dec.{eqb, leb}
-use lib.ListN.{length, take}
+use lib.ListN.{length, take, getD, set}
 use lib.Seq.{take-length}
 use lib.Ieee.{Float}
-use Rattle.num.specs.Choose.{by-not-true}
+use Rattle.num.specs.Choose.{then, else, by-not-false, by-not-true}
 use Rattle.work.specs.Metered.{split}
 use Rattle.objective.specs.Litters.{countOf}
 use Rattle.objective.specs.Refused.{none-invalid}
@@ -23,6 +23,12 @@ use Rattle.fit.specs.declared.report.Fit.{Fit}
 use Rattle.fit.specs.Fit.{fitOf}
 use Rattle.fit.specs.Refused.{invalid-refused, many-refused}
 use Rattle.buffers.specs.Buffers.{Given, fitPut, objectivePut, summaryPut}
+use Rattle.render.specs.Written.{written}
+use Rattle.print.specs.Room.{room}
+use Rattle.text.specs.Answer.{answerText}
+use Rattle.parts.specs.Lent.{sized}
+use Rattle.parts.specs.JoinedLent.{sizes}
+use Rattle.probit.specs.Joined.{answered, answerRoom, answerIn}
 
 -- ---- a test of three lengths that passed
 left : (a b : Bool) → (a && b) ≡ true → a ≡ true
@@ -65,3 +71,32 @@ objective-is g o x y ls l c p e h = rw (← h, ← e) p
 
 pub summary-is : (g : Given) (s : Summary) (ls c : List ℕ) → g ≡ summaryPut s c → s ≡ summaryOf ls → g ≡ summaryPut (summaryOf ls) c
 summary-is g s ls c p e = rw (← e) p
+
+-- ---- the answer to what a lent state keeps
+module _ (b c o : ℕ) (t : Bool) (e : t ≡ answerRoom b c o) (h : not t ≡ false) where
+  every : (sized b c ≡ true) × (leb room o ≡ true)
+  unfolding answerRoom
+  every = and-eq-true-iff (sized b c) (leb room o) .0 (by-not-true t _ e h)
+
+  pub answer-held : b ≡ 8193
+  answer-held = sizes b c (every .0) .0
+
+  pub answer-first : 0 < c
+  answer-first = omega (arith, sizes b c (every .0) .1)
+
+  pub answer-second : 1 < c
+  answer-second = omega (arith, sizes b c (every .0) .1)
+
+  pub answer-out : room ≤ o
+  answer-out = leb-true room o (every .1)
+
+module _ (b c o : List ℕ) (t : Bool) (e : t ≡ answerRoom (length b) (length c) (length o)) where
+  pub answer-wrong : not t ≡ true → answered 0 c o ≡ answerIn b c o
+  unfolding answerIn
+  answer-wrong h = else _ _ _ _ (by-not-false t _ e h) refl
+
+  pub answer-given :
+      (m : ℕ) (o' : List ℕ) → not t ≡ false → m ≡ length (answerText (take (getD c 0 0) b)) → o' ≡ written o 0 (answerText (take (getD c 0 0) b)) →
+      answered m (set c 1 1) o' ≡ answerIn b c o
+  unfolding answerIn
+  answer-given m o' h em eo = then _ _ _ _ (by-not-true t _ e h) (rw (em, eo) refl)

@@ -17,6 +17,8 @@ ghost use Rattle.request.specs.Request.{requestOf};
 ghost use Rattle.text.specs.Answer.{answerText};
 ghost use Rattle.print.specs.Room.{room};
 ghost use Rattle.buffers.specs.Buffers.{given, fitGiven, pointOf, objectiveGiven, summaryGiven};
+ghost use Rattle.parts.specs.Lent.{lent, told, partIn, finishIn};
+ghost use Rattle.probit.specs.Joined.{answered, answerIn};
 
 fn request(b: &[f64], tolerance: f64, evaluations: u64, iterations: u64, quadrature: u64) -> Request
     requires { ⌜ length (now b) ≡ 12 ⌝ }
@@ -111,9 +113,9 @@ pub extern "C" fn probit_summary(litters: &[u32], counts: &mut [u64]) -> u64
 // The interface's version: 1000 times its first number, and its second.
 #[no_mangle]
 pub extern "C" fn probit_version() -> u64
-    ensures { λ r. ⌜ r ≡ 1000 ⌝ }
+    ensures { λ r. ⌜ r ≡ 1001 ⌝ }
 {
-    1000
+    1001
 }
 
 // A request's bytes in, its answer's bytes out: how many, or 0 where `out` has fewer than 512 bytes, and then it is left as it was.
@@ -123,4 +125,39 @@ pub extern "C" fn probit_text(request: &[u8], out: &mut [u8]) -> usize
     ensures { λ n. ⌜ (room ≤ length (now (out .entry)) → (n ≡ length (answerText (now (request .entry)))) × (now (out .exit) ≡ written (now (out .entry)) 0 (answerText (now (request .entry))))) ⌝ }
 {
     text::answer(request, out)
+}
+
+// The state is lent: 8,193 bytes and two counts. Answers 0; 4 after finishing, 1 for another size, and then nothing is written.
+#[no_mangle]
+pub extern "C" fn probit_part(held: &mut [u8], counts: &mut [u64], bytes: &[u8]) -> u64
+    ensures { λ r. ⌜ lent r (now (held .exit)) (now (counts .exit)) ≡ partIn (now (held .entry)) (now (counts .entry)) (now (bytes .entry)) ⌝ }
+{
+    parts::lent::part_in(held, counts, bytes)
+}
+
+// Answers 0 with the request, 4 for Form with its line.
+#[no_mangle]
+pub extern "C" fn probit_finish(
+    held: &[u8],
+    counts: &mut [u64],
+    request: &mut [u64],
+    litters: &mut [u32],
+) -> u64
+    ensures { λ r. ⌜ told r (now (counts .exit)) (now (request .exit)) (now (litters .exit)) ≡ finishIn (now (held .entry)) (now (counts .entry)) (now (request .entry)) (now (litters .entry)) ⌝ }
+{
+    parts::lent::finish_in(held, counts, request, litters)
+}
+
+// A finishing call too, with the answer's bytes: how many, or 0 for a wrong size or a short buffer, and then nothing is written.
+#[no_mangle]
+pub extern "C" fn probit_answer(held: &[u8], counts: &mut [u64], out: &mut [u8]) -> usize
+    ensures { λ n. ⌜ answered n (now (counts .exit)) (now (out .exit)) ≡ answerIn (now (held .entry)) (now (counts .entry)) (now (out .entry)) ⌝ }
+{
+    if !crate::joined::answer_room(held.len(), counts.len(), out.len()) {
+        return 0;
+    }
+    let n = counts[0] as usize;
+    let m = crate::joined::answer_kept(held, n, out);
+    counts[1] = 1;
+    m
 }

@@ -21,3 +21,12 @@ pub fn counts(c: &[u64], out: &mut [u64])
         out[i] = c[i];
     }
 }
+
+pub fn litters(l: &[u32], out: &mut [u32])
+    requires { ⌜ length (now l) ≤ length (now out) ⌝ }
+    ensures { λ r. ⌜ now (out .exit) ≡ stored (now (out .entry)) (now (l .entry)) ⌝ }
+{
+    for i in 0..l.len() {
+        out[i] = l[i];
+    }
+}

@@ -1,0 +1,129 @@
+-- The laws of the state that a host lends: what the test of its size leaves known, and each call's answer by the tests on its way.
+use mathlib.Core.Path.{_≡_, refl, sym, ap, _∙_}
+use mathlib.Core.Bool.{Bool, true, false, not, _&&_, cond, and-eq-true-iff}
+use mathlib.Core.List.{List}
+use Prim.Native.Nat.{ℕ, zero, suc, _+_, _≤_, _<_}
+use native.Mathlib.Omega.{arith}
+use borrow.Author.Tests.{leb-true, eq-eqb, ne-eqb}
+use lib.Dec.{leb, ltb}
+use lib.ListN.{length, take, getD, set, replicate, length-replicate}
+use lib.Seq.{paste}
+use Rattle.num.specs.Choose.{then, else, by-not-false, by-not-true}
+use Rattle.put.specs.Stored.{stored}
+use Rattle.read.specs.declared.Asking.{Asking}
+use Rattle.form.specs.Read.{Reading, done, departsAt, read}
+use Rattle.litters.specs.Litters.{rowIn}
+use Rattle.litters.specs.Kept.{row-length}
+use Rattle.read.specs.Request.{head, litter, readRequest}
+use Rattle.read.specs.Rows.{putLitter, fillRow, fillRows, fillAfter, fillRequest, askingOf}
+use Rattle.parts.specs.Kept.{roomFor}
+use Rattle.parts.specs.Lent.{lent, told, sized, finishRoom, requestNumbers, partIn, toldOf, finishIn}
+use Rattle.parts.specs.JoinedLent.{sizes}
+
+-- ---- sizes
+
+module _ (b c : ℕ) (t : Bool) (e : t ≡ sized b c) (h : not t ≡ false) where
+  pub part-bytes : b ≡ 8193
+  part-bytes = sizes b c (by-not-true t _ e h) .0
+
+  pub part-first : 0 < c
+  part-first = omega (arith, sizes b c (by-not-true t _ e h) .1)
+
+  pub part-second : 1 < c
+  part-second = omega (arith, sizes b c (by-not-true t _ e h) .1)
+
+module _ (b c q l : ℕ) (t : Bool) (e : t ≡ finishRoom b c q l) (h : not t ≡ false) where
+  all : (sized b c ≡ true) × ((leb 18 q && leb 384 l) ≡ true)
+  unfolding finishRoom
+  all = and-eq-true-iff (sized b c) (leb 18 q && leb 384 l) .0 (by-not-true t _ e h)
+
+  pub finish-bytes : b ≡ 8193
+  finish-bytes = sizes b c (all .0) .0
+
+  pub finish-first : 0 < c
+  finish-first = omega (arith, sizes b c (all .0) .1)
+
+  pub finish-second : 1 < c
+  finish-second = omega (arith, sizes b c (all .0) .1)
+
+  pub finish-request : 18 ≤ q
+  finish-request = leb-true 18 q (and-eq-true-iff (leb 18 q) (leb 384 l) .0 (all .1) .0)
+
+  pub finish-litters : 384 ≤ l
+  finish-litters = leb-true 384 l (and-eq-true-iff (leb 18 q) (leb 384 l) .0 (all .1) .1)
+
+-- ---- what is told has room: the litters' buffer keeps its length, and the request has eighteen numbers
+
+length-put : (b l : List ℕ) (n : ℕ) → length (putLitter b n l) ≡ length b
+unfolding putLitter
+length-put b l n = by (ltb n 128)
+  where
+    by : (t : Bool) → length (cond t (rowIn b n (getD l 1 0) (getD l 2 0) (getD l 0 0)) b) ≡ length b
+    by true = row-length b n (getD l 1 0) (getD l 2 0) (getD l 0 0)
+    by false = refl
+
+length-rows : (k n : ℕ) (b s : List ℕ) → length (fillRows k n b s) ≡ length b
+unfolding fillRows
+length-rows zero n b s = refl
+length-rows (suc k) n b s = by (read litter (8 + n) s) (length-rows k (n + 1))
+  where
+    by : (r : Reading) → ((c t : List ℕ) → length (fillRows k (n + 1) c t) ≡ length c) → length (fillRow n b r (fillRows k (n + 1))) ≡ length b
+    by (done l t) go = go (putLitter b n l) t ∙ length-put b l n
+    by (departsAt line) go = refl
+
+length-fill : (b text : List ℕ) → length (fillRequest b text) ≡ length b
+unfolding fillRequest
+length-fill b text = by (ltb 8192 (length text))
+  where
+    by-head : (r : Reading) → length (fillAfter b r) ≡ length b
+    by-head (departsAt line) = refl
+    by-head (done vs s) = length-rows 8192 0 b s
+
+    by : (t : Bool) → length (cond t b (fillAfter b (read head 1 text))) ≡ length b
+    by true = refl
+    by false = by-head (read head 1 text)
+
+pub rows-long : (rows text : List ℕ) → rows ≡ fillRequest (replicate 384 0) text → 384 ≡ length rows
+rows-long rows text e = sym (ap length e ∙ length-fill (replicate 384 0) text ∙ length-replicate {A = ℕ} 384 0)
+
+pub numbers-long : (numbers : List ℕ) (a : Asking) → numbers ≡ requestNumbers a → 18 ≡ length numbers
+unfolding requestNumbers
+numbers-long numbers a e = sym (ap length e)
+
+module _ (b c q l : ℕ) (t : Bool) (e : t ≡ finishRoom b c q l) (h : not t ≡ false) where
+  pub numbers-fit : (numbers : List ℕ) (a : Asking) → numbers ≡ requestNumbers a → length numbers ≤ q
+  numbers-fit numbers a i = omega (arith, numbers-long numbers a i, finish-request b c q l t e h)
+
+  pub rows-fit : (rows text : List ℕ) → rows ≡ fillRequest (replicate 384 0) text → length rows ≤ l
+  rows-fit rows text i = omega (arith, rows-long rows text i, finish-litters b c q l t e h)
+
+-- ---- a part
+
+module _ (b c p : List ℕ) (t : Bool) (e : t ≡ sized (length b) (length c)) where
+  pub part-wrong : not t ≡ true → lent 1 b c ≡ partIn b c p
+  unfolding partIn
+  part-wrong h = else _ _ _ _ (by-not-false t _ e h) refl
+
+  pub part-refused : not t ≡ false → (getD c 1 0 ≡ 0 → ⊥) → lent 4 b c ≡ partIn b c p
+  unfolding partIn
+  part-refused h f = then _ _ _ _ (by-not-true t _ e h) (else _ _ _ _ (ne-eqb (getD c 1 0) 0 f) refl)
+
+  pub part-taken :
+      (b' : List ℕ) (m : ℕ) → not t ≡ false → getD c 1 0 ≡ 0 → m ≡ getD c 0 0 + roomFor (getD c 0 0) (length p) →
+      b' ≡ paste b (getD c 0 0) p (roomFor (getD c 0 0) (length p)) → lent 0 b' (set c 0 m) ≡ partIn b c p
+  unfolding partIn
+  part-taken b' m h f i j = then _ _ _ _ (by-not-true t _ e h) (then _ _ _ _ (eq-eqb (getD c 1 0) 0 f) (rw (i, j) refl))
+
+-- ---- finishing
+
+module _ (b c q l : List ℕ) (t : Bool) (e : t ≡ finishRoom (length b) (length c) (length q) (length l)) where
+  pub finish-wrong : not t ≡ true → told 1 c q l ≡ finishIn b c q l
+  unfolding finishIn
+  finish-wrong h = else _ _ _ _ (by-not-false t _ e h) refl
+
+  pub finish-told :
+      (a : Asking) (rows numbers q' l' : List ℕ) (r : ℕ) → not t ≡ false → a ≡ askingOf 0 (readRequest (take (getD c 0 0) b)) →
+      rows ≡ fillRequest (replicate 384 0) (take (getD c 0 0) b) → numbers ≡ requestNumbers a → q' ≡ stored q numbers → l' ≡ stored l rows →
+      r ≡ cond (a .fits) 0 4 → told r (set c 1 1) q' l' ≡ finishIn b c q l
+  unfolding finishIn toldOf
+  finish-told a rows numbers q' l' r h ea er en eq el ev = then _ _ _ _ (by-not-true t _ e h) (rw (ev, eq, el, en, er, ea) refl)

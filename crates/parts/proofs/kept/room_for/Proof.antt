@@ -1,0 +1,17 @@
+-- `kept::room_for` meets its contract.
+use native.Mathlib.Omega.{arith}
+use borrow.Author.Needs.{needs}
+use Rattle.parts.specs.Kept.{roomFor}
+use Rattle.parts.proofs.kept.room_for.Statement.{statement}
+use Rattle.parts.proofs.kept.room_for.Tie as tie
+
+returns : tie.Need-returns
+unfolding roomFor
+returns c = omega arith
+
+returns-2 : tie.Need-returns-2
+unfolding roomFor
+returns-2 c = c .least .ensures
+
+pub room-for-spec : {M : Type 1} → statement M
+room-for-spec = tie.close (tie.spec returns (λ c. search needs) (λ c κs. search needs) returns-2)

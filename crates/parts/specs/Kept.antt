@@ -1,0 +1,6 @@
+-- How many bytes of a part are kept: 8,193 of a text, one more than a request may have.
+use Prim.Native.Nat.{ℕ, _-_, min}
+
+-- how many of len bytes have a place behind n
+unfoldable pub roomFor : ℕ → ℕ → ℕ
+roomFor n len = min len (8193 - n)
