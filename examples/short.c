@@ -123,6 +123,43 @@ static void one_summary(size_t l, size_t c, int where) {
     give_back(&ll), give_back(&lc);
 }
 
+/* e estimates of 1 with errors of 1, the identity of e rows in the first v places of the covariance; the first and the last are marked. */
+static void one_interval(size_t e, size_t v, size_t s, size_t n, uint64_t marks, int where) {
+    enum { MOST = PROBIT_MAX_ESTIMATES + 1 };
+    double ones[MOST + 1], covariance[MOST * MOST + 1];
+    for (size_t i = 0; i <= MOST; i++)
+        ones[i] = 1;
+    for (size_t i = 0; i <= MOST * MOST; i++)
+        covariance[i] = i % (e + 1) == 0;
+    struct lent le = lend(ones, 8 * e, where), lv = lend(covariance, 8 * v, where), ls = lend(ones, 8 * s, where), ln = lend(NULL, 8 * n, where);
+    uint64_t end = probit_intervals((double *)le.at, e, (double *)lv.at, v, (double *)ls.at, s, marks, (double *)ln.at, n);
+    int answered = e >= 1 && e <= PROBIT_MAX_ESTIMATES && v == e * e && s == e && n >= PROBIT_INTERVALS_NUMBERS && marks && marks >> e == 0;
+    int good = end == (answered ? PROBIT_ANSWERED : PROBIT_INVALID_INPUT) && kept(&ln, answered ? 8 * PROBIT_INTERVALS_NUMBERS : 0);
+    good &= (!e || !memcmp(le.at, ones, 8 * e)) && (!v || !memcmp(lv.at, covariance, 8 * v)) && (!s || !memcmp(ls.at, ones, 8 * s));
+    if (answered)
+        for (size_t i = 0; i < PROBIT_MAX_ESTIMATES; i++) {
+            const double *x = (double *)ln.at + PROBIT_INTERVAL * i;
+            int marked = marks >> i & 1;
+            good &= x[PROBIT_LOG_ERROR] == marked && (marked ? 0 < x[PROBIT_LOWER] && x[PROBIT_LOWER] < 1 && 1 < x[PROBIT_UPPER] : !x[PROBIT_LOWER] && !x[PROBIT_UPPER]);
+        }
+    expect(good, "probit_intervals", e, v, s, n);
+    give_back(&le), give_back(&lv), give_back(&ls), give_back(&ln);
+}
+
+static void intervals(int where) {
+    for (size_t e = 0; e <= PROBIT_MAX_ESTIMATES + 1; e++) {
+        uint64_t ends = 1 | (e ? (uint64_t)1 << (e - 1) : 0);
+        for (size_t v = e * e - (e > 0); v <= e * e + 1; v++)
+            for (size_t s = e - (e > 0); s <= e + 1; s++)
+                one_interval(e, v, s, PROBIT_INTERVALS_NUMBERS, ends, where);
+        for (size_t n = 0; n <= PROBIT_INTERVALS_NUMBERS + 1; n++)
+            one_interval(e, e * e, e, n, ends, where);
+        one_interval(e, e * e, e, PROBIT_INTERVALS_NUMBERS, 0, where);
+        one_interval(e, e * e, e, PROBIT_INTERVALS_NUMBERS, (uint64_t)1 << e, where);
+        one_interval(e, e * e, e, PROBIT_INTERVALS_NUMBERS, 1 | (uint64_t)1 << 63, where);
+    }
+}
+
 static void one_text(size_t r, size_t o, int where) {
     struct lent lr = lend(request, r, where), lo = lend(NULL, o, where);
     size_t n = probit_text(lr.at, r, lo.at, o);
@@ -258,6 +295,7 @@ int main(int argc, char **argv) {
             one_text(sizeof request - 1, o, where);
         for (size_t r = 0; r < sizeof request; r++)
             one_text(r, PROBIT_TEXT, where);
+        intervals(where);
         one_fit(0, 0, 0, 0, where), one_objective(0, 0, 0, 0, where), one_summary(0, 0, where), one_text(0, 0, where);
     }
     most_litters();

@@ -23,7 +23,7 @@ extern "C" {
 /* ---- The version of this interface: 1000 times the first number, and the second. The second rises when something is added, the first when something
  * here changes or goes. A library fits a host if its first number is the header's and its version is no less:
  *   probit_version() / 1000 == PROBIT_VERSION / 1000 && probit_version() >= PROBIT_VERSION */
-#define PROBIT_VERSION 1001
+#define PROBIT_VERSION 1002
 
 uint64_t probit_version(void);
 
@@ -53,7 +53,8 @@ enum {
     PROBIT_INVALID_INPUT = 1, /* a length, a bound, a limit or a litter is not as asked */
     PROBIT_DOMAIN = 2,        /* the numbers led nowhere; the reason is one of those below */
     PROBIT_WORK_BUDGET = 3,   /* the limit of quadrature evaluations was met before the answer */
-    PROBIT_FORM = 4           /* in text alone: the request has not the form, and a line's number stands for the reason */
+    PROBIT_FORM = 4,          /* in text alone: the request has not the form, and a line's number stands for the reason */
+    PROBIT_UNSUPPORTED = 8    /* of intervals alone: an interval that is not finite, positive and increasing */
 };
 
 /* ---- The reason of PROBIT_DOMAIN; 0 with every other ending. */
@@ -142,6 +143,25 @@ uint64_t probit_objective(const double *point, size_t point_len, const uint32_t 
 enum { PROBIT_SUMMARY_LITTERS, PROBIT_SUMMARY_AFFECTED, PROBIT_SUMMARY_PUPS, PROBIT_SUMMARY_EXTREME };
 
 uint64_t probit_summary(const uint32_t *litters, size_t litters_len, uint64_t *counts, size_t counts_len);
+
+/* ---- Log-Wald intervals: the 95 percent intervals of estimates that are positive by their nature, as SDs are.
+ *
+ * estimates: 1 to PROBIT_MAX_ESTIMATES. covariance: by rows, as many rows and columns. errors: their standard errors, the roots of its diagonal.
+ * marks: bit i marks estimate i as of positive domain. At least one is marked, none past the last. What is not marked is not looked at.
+ *
+ * numbers (PROBIT_INTERVALS_NUMBERS or more): PROBIT_INTERVAL places an estimate, zeros where it is not marked.
+ * PROBIT_INVALID_INPUT, and zeros: a covariance that is not finite, symmetric and positive definite, or a standard error that is not positive or
+ *   does not agree with its diagonal; then, marked estimate by marked estimate in their order, one that is not finite and positive.
+ * PROBIT_UNSUPPORTED, and zeros: an interval that is not finite, positive and increasing, at its place in that order.
+ * Where a length, the dimension or the marks are not as above, the value is PROBIT_INVALID_INPUT and nothing is written. */
+#define PROBIT_MAX_ESTIMATES 8
+#define PROBIT_INTERVALS_NUMBERS 24
+#define PROBIT_INTERVAL 3
+
+enum { PROBIT_LOG_ERROR, PROBIT_LOWER, PROBIT_UPPER };
+
+uint64_t probit_intervals(const double *estimates, size_t estimates_len, const double *covariance, size_t covariance_len, const double *errors,
+                          size_t errors_len, uint64_t marks, double *numbers, size_t numbers_len);
 
 /* ---- The text entry: the bytes that the program probitfit reads, and those that it prints (docs/FORMAT.md).
  * A request begins

@@ -12,6 +12,7 @@ static inline const char *probit_ending_name(uint64_t ending) {
     case PROBIT_DOMAIN: return "domain";
     case PROBIT_WORK_BUDGET: return "work budget";
     case PROBIT_FORM: return "form";
+    case PROBIT_UNSUPPORTED: return "unsupported";
     default: return "unknown";
     }
 }

@@ -41,6 +41,12 @@ static void part(void) { probit_part(held, PROBIT_HELD, parts, PROBIT_PART_COUNT
 static void finish(void) { probit_finish(held, PROBIT_HELD, parts, PROBIT_PART_COUNTS, asked, PROBIT_REQUEST_NUMBERS, rows, PROBIT_REQUEST_LITTERS); }
 static void answer(void) { probit_answer(held, PROBIT_HELD, parts, PROBIT_PART_COUNTS, out, sizeof out); }
 
+/* two estimates, both marked */
+static const double estimates[2] = {0.25, 1.0}, covariance[4] = {0.04, 0.01, 0.01, 0.09}, errors[2] = {0.2, 0.3};
+static double ends[PROBIT_INTERVALS_NUMBERS];
+
+static void intervals(void) { probit_intervals(estimates, 2, covariance, 4, errors, 2, 3, ends, PROBIT_INTERVALS_NUMBERS); }
+
 static size_t taken(void (*f)(void)) {
     size_t clean = 0;
     memset(stack, PAINT, sizeof stack);
@@ -96,7 +102,8 @@ static const struct {
     const char *name;
     void (*f)(void);
 } functions[] = {{"probit_fit", fit}, {"probit_objective", objective}, {"probit_summary", summary}, {"probit_text", text},
-                 {"probit_part", part}, {"probit_finish", finish}, {"probit_answer", answer}};
+                 {"probit_part", part}, {"probit_finish", finish}, {"probit_answer", answer},
+                 {"probit_intervals", intervals}};
 
 static const struct {
     size_t n;

@@ -16,6 +16,7 @@ ghost use Rattle.summary.specs.Summary.{summaryOf};
 ghost use Rattle.request.specs.Request.{requestOf};
 ghost use Rattle.text.specs.Answer.{answerText};
 ghost use Rattle.print.specs.Room.{room};
+ghost use Rattle.intervals.specs.Intervals.{filled, intervalsFilled};
 ghost use Rattle.buffers.specs.Buffers.{given, fitGiven, pointOf, objectiveGiven, summaryGiven};
 ghost use Rattle.parts.specs.Lent.{lent, told, partIn, finishIn};
 ghost use Rattle.probit.specs.Joined.{answered, answerIn};
@@ -110,12 +111,27 @@ pub extern "C" fn probit_summary(litters: &[u32], counts: &mut [u64]) -> u64
     buffers::put_summary(summary::summarize(litters), counts)
 }
 
+// Estimates, covariance by rows, standard errors; bit i of `marks` marks estimate i as of positive domain. Answers 0, 1 or 8.
+#[no_mangle]
+pub extern "C" fn probit_intervals(
+    estimates: &[f64],
+    covariance: &[f64],
+    errors: &[f64],
+    marks: u64,
+    numbers: &mut [f64],
+) -> u64
+    ensures { λ r. ⌜ filled r (now (numbers .exit)) ≡ intervalsFilled (now (estimates .entry)) (now (covariance .entry)) (now (errors .entry)) marks (now (numbers .entry)) ⌝ }
+    ensures { λ r. ⌜ (now (estimates .exit) ≡ now (estimates .entry)) × (now (covariance .exit) ≡ now (covariance .entry)) × (now (errors .exit) ≡ now (errors .entry)) ⌝ }
+{
+    intervals::put_intervals(estimates, covariance, errors, marks, numbers)
+}
+
 // The interface's version: 1000 times its first number, and its second.
 #[no_mangle]
 pub extern "C" fn probit_version() -> u64
-    ensures { λ r. ⌜ r ≡ 1001 ⌝ }
+    ensures { λ r. ⌜ r ≡ 1002 ⌝ }
 {
-    1001
+    1002
 }
 
 // A request's bytes in, its answer's bytes out: how many, or 0 where `out` has fewer than 512 bytes, and then it is left as it was.

@@ -1,0 +1,37 @@
+-- `shape::all_finite` meets its contract, as the numbers still to come decide the whole.
+use mathlib.Core.Path.{_≡_, refl}
+use Prim.Native.Nat.{_-_}
+use native.Mathlib.Nat.{sub-zero}
+use lib.ListN.{length}
+use Rattle.intervals.specs.Shape.{finiteFrom, allFinite}
+use Rattle.intervals.proofs.Laws.{finite-stops, finite-turn, finite-done}
+use borrow.Author.Needs.{needs}
+use Rattle.num.specs.Choose.{choose}
+use Rattle.intervals.proofs.shape.all_finite.Statement.{statement}
+use Rattle.intervals.proofs.shape.all_finite.Tie as tie
+
+abbrev Inv-loop : tie.InvT-loop
+Inv-loop v i₀ i-end i = finiteFrom v (length v - i) i ≡ allFinite v
+
+abbrev μ-loop : tie.MeasureT-loop
+μ-loop v i₀ i-end i = length v - i
+
+loop-holds : tie.Need-loop-holds Inv-loop μ-loop
+unfolding allFinite
+loop-holds c = rw (sub-zero (length (c .before .args .v .now)))
+
+pub all-finite-spec : {M : Type 1} → statement M
+all-finite-spec =
+    tie.close
+    (tie.spec
+    Inv-loop
+    μ-loop
+    loop-holds
+    (λ c. search needs)
+    (λ c. search needs)
+    (λ c κs. search needs)
+    (λ c. (search (finite-stops, choose), refl))
+    (λ c. search needs)
+    (λ c. search needs)
+    (λ c. search (finite-turn, choose))
+    (λ c. (search finite-done, refl)))
