@@ -8,6 +8,7 @@ import ctypes
 import math
 import os
 import pathlib
+import platform
 import random
 import re
 import shutil
@@ -228,6 +229,8 @@ def library():
     path = os.environ.get("PROBIT_LIB")
     if path and not pathlib.Path(path).is_file():
         failed("PROBIT_LIB names no file: " + path)
+    if platform.machine() != "x86_64":
+        missing("the library is for x86-64, and this Python cannot load it")
     if not shutil.which("gcc"):
         missing("gcc is not there (Debian: gcc)")
     if not path:
