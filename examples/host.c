@@ -73,6 +73,7 @@ static size_t answer_text(char *out, size_t room, const struct fit *f) {
                  bits(f->numbers[PROBIT_MEAN_1]));
     for (int i = 0; i < 2; i++)
         n += snprintf(out + n, room - n, "sd %016" PRIx64 " %016" PRIx64 "\n", bits(f->numbers[PROBIT_SD_0]), bits(f->numbers[PROBIT_SD_1]));
+    n += snprintf(out + n, room - n, "variance %016" PRIx64 " %016" PRIx64 "\n", bits(f->numbers[PROBIT_VARIANCE_0]), bits(f->numbers[PROBIT_VARIANCE_1]));
     n += snprintf(out + n, room - n, "nll %016" PRIx64 "\ngradient %016" PRIx64 "\n", bits(f->numbers[PROBIT_NLL]), bits(f->numbers[PROBIT_NORM]));
     n += snprintf(out + n, room - n, "counts %" PRIu64 " %" PRIu64 " %" PRIu64 "\nlitters %" PRIu64 "\nactive", c[PROBIT_EVALUATIONS],
                   c[PROBIT_ITERATIONS], c[PROBIT_QUADRATURE], c[PROBIT_LITTER_COUNT]);

@@ -5,7 +5,7 @@ mod probit {
     pub const ANSWERED: u64 = 0;
     pub const WORK_BUDGET: u64 = 3;
     pub const TEXT: usize = 512;
-    pub const VERSION: u64 = 1002;
+    pub const VERSION: u64 = 1003;
     const ENDINGS: [&str; 5] = ["answered", "invalid input", "domain", "work budget", "form"];
 
     pub fn ending(n: u64) -> &'static str {
@@ -31,16 +31,16 @@ mod probit {
         pub quadrature: u64,
     }
 
-    /// Two means, two SDs, the negative log-likelihood, the norm; status, evaluations, iterations, quadrature, litters, reason, four marks.
+    /// Two means, two SDs, the negative log-likelihood, the norm, two variances, the gradient (4), the Hessian by rows (16); status, evaluations, iterations, quadrature, litters, reason, four marks.
     #[derive(PartialEq)]
     pub struct Fit {
         pub end: u64,
-        pub numbers: [f64; 6],
+        pub numbers: [f64; 28],
         pub counts: [u64; 10],
     }
 
     pub fn fit(bounds: &[f64], l: &Limits, litters: &[u32]) -> Fit {
-        let (mut numbers, mut counts) = ([0.; 6], [0; 10]);
+        let (mut numbers, mut counts) = ([0.; 28], [0; 10]);
         let end = unsafe {
             library::probit_fit(
                 bounds.as_ptr(), bounds.len(), l.tolerance, l.evaluations, l.iterations, l.quadrature, litters.as_ptr(), litters.len(),
@@ -105,14 +105,14 @@ fn answer_text(f: &Fit) -> String {
     if f.end != probit::ANSWERED {
         return format!("refused {} {quadrature} {reason}\n", f.end);
     }
-    let [m0, m1, s0, s1, nll, norm] = f.numbers.map(bits);
+    let [m0, m1, s0, s1, nll, norm, v0, v1, ..] = f.numbers.map(bits);
     let mut active: String = (0..4).filter(|i| marks[*i] == 1).map(|i| format!(" {i}")).collect();
     if active.is_empty() {
         active = " none".into();
     }
     format!(
-        "status {}\nmean {m0:016x} {m1:016x}\nsd {s0:016x} {s1:016x}\nsd {s0:016x} {s1:016x}\nnll {nll:016x}\ngradient {norm:016x}\n\
-         counts {evaluations} {iterations} {quadrature}\nlitters {litters}\nactive{active}\n",
+        "status {}\nmean {m0:016x} {m1:016x}\nsd {s0:016x} {s1:016x}\nsd {s0:016x} {s1:016x}\nvariance {v0:016x} {v1:016x}\n\
+         nll {nll:016x}\ngradient {norm:016x}\ncounts {evaluations} {iterations} {quadrature}\nlitters {litters}\nactive{active}\n",
         STATUSES[status as usize]
     )
 }

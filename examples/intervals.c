@@ -1,42 +1,17 @@
-/* The intervals of a real fit: Weil's litters of rats are fitted, the covariance of means and SDs is made from the objective's Hessian at the fit,
+/* The intervals of a real fit: Weil's litters of rats are fitted, the covariance of means and SDs is made from the reported Hessian,
  * and the SDs, which are positive by their nature, get their 95 percent log-Wald intervals.
  * intervals < REQUEST: a request as the text program reads it, its numbers in decimal. */
-#include <math.h>
 #include <inttypes.h>
 #include <stdio.h>
 #include <string.h>
 
+#include "inverse.h"
 #include "probit.h"
 #include "probit_names.h"
 
-enum { N = PROBIT_POINT };
-
-/* The inverse of a by elimination with the largest pivot; 0 where there is none. */
-static int inverse(double a[N][N], double b[N][N]) {
-    for (int i = 0; i < N; i++)
-        for (int j = 0; j < N; j++) b[i][j] = i == j;
-    for (int k = 0; k < N; k++) {
-        int p = k;
-        for (int i = k + 1; i < N; i++)
-            if (fabs(a[i][k]) > fabs(a[p][k])) p = i;
-        if (a[p][k] == 0) return 0;
-        for (int j = 0; j < N; j++) {
-            double t = a[k][j]; a[k][j] = a[p][j]; a[p][j] = t;
-            t = b[k][j]; b[k][j] = b[p][j]; b[p][j] = t;
-        }
-        for (int i = 0; i < N; i++) {
-            double f = i == k ? 0 : a[i][k] / a[k][k];
-            for (int j = 0; j < N; j++) a[i][j] -= f * a[k][j], b[i][j] -= f * b[k][j];
-        }
-    }
-    for (int i = 0; i < N; i++)
-        for (int j = 0; j < N; j++) b[i][j] /= a[i][i];
-    return 1;
-}
-
 int main(void) {
-    double bounds[PROBIT_BOUNDS], tolerance = 0, fit[PROBIT_FIT_NUMBERS], at[PROBIT_OBJECTIVE_NUMBERS], numbers[PROBIT_INTERVALS_NUMBERS];
-    uint64_t work[3] = {0}, counts[PROBIT_FIT_COUNTS], used[PROBIT_OBJECTIVE_COUNTS], end;
+    double bounds[PROBIT_BOUNDS], tolerance = 0, fit[PROBIT_FIT_NUMBERS], numbers[PROBIT_INTERVALS_NUMBERS];
+    uint64_t work[3] = {0}, counts[PROBIT_FIT_COUNTS], end;
     uint32_t litters[PROBIT_LITTER_NUMBERS * PROBIT_MAX_LITTERS];
     size_t length = 0;
     char line[256], name[8];
@@ -57,13 +32,11 @@ int main(void) {
     printf("fit: %s, %s\n", probit_ending_name(end), probit_status_name(counts[PROBIT_STATUS]));
     if (end != PROBIT_ANSWERED || counts[PROBIT_STATUS] != PROBIT_CONVERGED) return 1;
 
-    /* The objective's coordinates are means and variances. */
+    /* Its coordinates are means and variances. */
     const double *sd = fit + PROBIT_SD_0;
-    double point[N] = {fit[PROBIT_MEAN_0], fit[PROBIT_MEAN_1], sd[0] * sd[0], sd[1] * sd[1]}, hessian[N][N], covariance[N][N], errors[N];
-    end = probit_objective(point, N, litters, length, at, PROBIT_OBJECTIVE_NUMBERS, used, PROBIT_OBJECTIVE_COUNTS);
-    if (end != PROBIT_ANSWERED) return 1;
-    memcpy(hessian, at + PROBIT_OBJECTIVE_HESSIAN, sizeof hessian);
-    if (!inverse(hessian, covariance)) return 1;
+    double hessian[N][N], covariance[N][N], errors[N];
+    memcpy(hessian, fit + PROBIT_HESSIAN, sizeof hessian);
+    if (!inverse(N, hessian, covariance)) return 1;
     /* From variances to SDs: the derivative of a root is 1 / (2 SD). Rounding is evened out, so that the two halves agree. */
     double slope[N] = {1, 1, 1 / (2 * sd[0]), 1 / (2 * sd[1])};
     for (int i = 0; i < N; i++)

@@ -88,10 +88,11 @@ static const char request[] =
 static void one_fit(size_t b, size_t l, size_t n, size_t c, int where) {
     struct lent lb = lend(bounds, 8 * b, where), ll = lend(litters, 4 * l, where), ln = lend(NULL, 8 * n, where), lc = lend(NULL, 8 * c, where);
     uint64_t end = probit_fit((double *)lb.at, b, 1e-6, 10, 10, 4, (uint32_t *)ll.at, l, (double *)ln.at, n, (uint64_t *)lc.at, c);
-    int fits = b == PROBIT_BOUNDS && n >= PROBIT_FIT_NUMBERS && c >= PROBIT_FIT_COUNTS;
+    int fits = b == PROBIT_BOUNDS && n >= PROBIT_FIT_FIRST_NUMBERS && c >= PROBIT_FIT_COUNTS;
+    size_t filled = !fits ? 0 : n < PROBIT_FIT_NUMBERS ? PROBIT_FIT_FIRST_NUMBERS : PROBIT_FIT_NUMBERS;
     int answered = fits && l == WHOLE;
     int good = end == (answered ? PROBIT_ANSWERED : PROBIT_INVALID_INPUT);
-    good &= kept(&ln, fits ? 8 * PROBIT_FIT_NUMBERS : 0) && kept(&lc, fits ? 8 * PROBIT_FIT_COUNTS : 0);
+    good &= kept(&ln, 8 * filled) && kept(&lc, fits ? 8 * PROBIT_FIT_COUNTS : 0);
     good &= (!b || !memcmp(lb.at, bounds, 8 * b)) && (!l || !memcmp(ll.at, litters, 4 * l));
     if (fits)
         good &= ((uint64_t *)lc.at)[PROBIT_QUADRATURE] == (answered ? 4 : 0) && ((uint64_t *)lc.at)[PROBIT_SD_1_ON_BOUND] == (uint64_t)answered;
@@ -172,7 +173,7 @@ static void one_text(size_t r, size_t o, int where) {
 
 /* As many litters as there may be, and one more. With SDs of 0 each is one evaluation, and one of two pups is at the means' start. */
 static void most_litters(void) {
-    double numbers[PROBIT_OBJECTIVE_NUMBERS];
+    double numbers[PROBIT_FIT_NUMBERS];
     uint64_t counts[PROBIT_FIT_COUNTS], end;
     uint32_t many[PROBIT_LITTER_NUMBERS * (PROBIT_MAX_LITTERS + 1)];
     for (size_t i = 0; i <= PROBIT_MAX_LITTERS; i++)
@@ -195,7 +196,7 @@ static void too_long(void) {
     static const size_t lengths[] = {PROBIT_LITTER_NUMBERS * (PROBIT_MAX_LITTERS + 1), 300000000};
     size_t bytes = sizeof(uint32_t) * lengths[1];
     void *none = mmap(NULL, bytes, PROT_NONE, MAP_PRIVATE | MAP_ANONYMOUS | MAP_NORESERVE, -1, 0);
-    double numbers[PROBIT_OBJECTIVE_NUMBERS];
+    double numbers[PROBIT_FIT_NUMBERS];
     uint64_t counts[PROBIT_FIT_COUNTS];
     uint8_t out[PROBIT_TEXT];
     if (none == MAP_FAILED)

@@ -23,7 +23,7 @@ extern "C" {
 /* ---- The version of this interface: 1000 times the first number, and the second. The second rises when something is added, the first when something
  * here changes or goes. A library fits a host if its first number is the header's and its version is no less:
  *   probit_version() / 1000 == PROBIT_VERSION / 1000 && probit_version() >= PROBIT_VERSION */
-#define PROBIT_VERSION 1002
+#define PROBIT_VERSION 1003
 
 uint64_t probit_version(void);
 
@@ -87,13 +87,28 @@ enum {
  *
  * numbers (PROBIT_FIT_NUMBERS or more) and counts (PROBIT_FIT_COUNTS or more) get the answer at the places below; elements after them are left as
  * they were. A refusal puts zeros, but for its quadrature evaluations and its reason.
+ * With fewer numbers, but PROBIT_FIT_FIRST_NUMBERS or more, the first so many are written and the rest is left as it was: all that version 1002 had.
  * Where bounds_len is not PROBIT_BOUNDS, or a buffer is too short, the value is PROBIT_INVALID_INPUT and nothing is written. */
 #define PROBIT_BOUNDS 12
-#define PROBIT_FIT_NUMBERS 6
+#define PROBIT_FIT_NUMBERS 28
+#define PROBIT_FIT_FIRST_NUMBERS 6
 #define PROBIT_FIT_COUNTS 10
 
-/* places in numbers */
-enum { PROBIT_MEAN_0, PROBIT_MEAN_1, PROBIT_SD_0, PROBIT_SD_1, PROBIT_NLL, PROBIT_NORM };
+/* places in numbers, the first of each. The coordinates of gradient (4) and Hessian (16, by rows) are mean 0, mean 1, variance 0, variance 1.
+ * probit_objective at the means and the variances gives this likelihood, gradient and Hessian to the bit. The SD is a rounded root: its square may
+ * be another number than the variance. */
+enum {
+    PROBIT_MEAN_0,
+    PROBIT_MEAN_1,
+    PROBIT_SD_0,
+    PROBIT_SD_1,
+    PROBIT_NLL,
+    PROBIT_NORM,
+    PROBIT_VARIANCE_0,
+    PROBIT_VARIANCE_1,
+    PROBIT_GRADIENT = 8,
+    PROBIT_HESSIAN = 12
+};
 
 /* places in counts; a mark is 1 where that coordinate lies on one of its bounds, else 0 */
 enum {
@@ -170,7 +185,7 @@ uint64_t probit_intervals(const double *estimates, size_t estimates_len, const d
  * with each f64 in decimal, at most 17 digits, or as the 16 hexadecimal digits of its bits; an answer has the latter.
  *
  * The value is the length of the answer, which stands at the start of out, with no zero after it; the rest of out is left as it was.
- * Where out_len is below PROBIT_TEXT, the value is 0 and nothing is written. No answer of today has more than 300 bytes; the rest is room for
+ * Where out_len is below PROBIT_TEXT, the value is 0 and nothing is written. No answer of today has more than 343 bytes; the rest is room for
  * lines to come. */
 #define PROBIT_TEXT 512
 

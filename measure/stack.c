@@ -14,7 +14,7 @@ static ucontext_t here, there;
 
 static uint32_t litters[3 * MOST];
 static size_t litters_len;
-static double bounds[PROBIT_BOUNDS], point[PROBIT_POINT], numbers[PROBIT_OBJECTIVE_NUMBERS];
+static double bounds[PROBIT_BOUNDS], point[PROBIT_POINT], numbers[PROBIT_FIT_NUMBERS];
 static uint64_t counts[PROBIT_FIT_COUNTS], quadrature, end;
 static char request[8193];
 static size_t request_len;

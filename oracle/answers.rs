@@ -123,28 +123,32 @@ pub fn read(text: &[u8]) -> Result<Request, usize> {
     })
 }
 
-// The answers in print. What they leave out (hash, algorithm, source) document 01 leaves behind.
+// The answers in print. What they leave out (hash, algorithm, source) document 01 leaves behind. What the module's record has not, the hooks tell (document 02 §6).
 
 pub trait Answer {
-    fn print(&self) -> String;
+    fn print(&self, seen: &Seen) -> String;
     fn evaluations(&self) -> usize;
 }
 impl Answer for Fit {
-    fn print(&self) -> String {
+    fn print(&self, seen: &Seen) -> String {
+        let Some(stop) = seen.stop else { return "no hook told where the fit stopped\n".to_string() };
+        if hexes(&self.means) != hexes(&stop.x[..2]) {
+            return "the hook tells of another point\n".to_string();
+        }
         let status = match self.status {
             FitStatus::Converged => "converged",
             FitStatus::EvaluationLimit => "evaluation-limit",
             FitStatus::IterationLimit => "iteration-limit",
             FitStatus::LineSearchFailed => "line-search-failed",
         };
-        let (mean, sd) = (hexes(&self.means), hexes(&self.sds));
+        let (mean, sd, variance) = (hexes(&self.means), hexes(&self.sds), hexes(&stop.x[2..]));
         let (nll, gradient) = (hex(self.negative_log_likelihood), hex(self.projected_gradient_norm));
         let counts = format!("{} {} {}", self.evaluations, self.iterations, self.quadrature_evaluations);
         let active: Vec<String> = self.active_bounds.iter().map(usize::to_string).collect();
         let active = if active.is_empty() { "none".to_string() } else { active.join(" ") };
         let litters = self.observations;
         format!(
-            "status {status}\nmean {mean}\nsd {sd}\nsd {sd}\nnll {nll}\ngradient {gradient}\ncounts {counts}\nlitters {litters}\nactive {active}\n"
+            "status {status}\nmean {mean}\nsd {sd}\nsd {sd}\nvariance {variance}\nnll {nll}\ngradient {gradient}\ncounts {counts}\nlitters {litters}\nactive {active}\n"
         )
     }
     fn evaluations(&self) -> usize {
@@ -152,7 +156,7 @@ impl Answer for Fit {
     }
 }
 impl Answer for Objective {
-    fn print(&self) -> String {
+    fn print(&self, _: &Seen) -> String {
         let (nll, refinement) = (hex(self.negative_log_likelihood), hex(self.quadrature_refinement));
         let (gradient, hessian) = (hexes(&self.gradient), hexes(self.hessian.iter().flatten()));
         format!("{nll} {gradient} {hessian} {} {refinement}\n", self.quadrature_evaluations)
@@ -162,7 +166,7 @@ impl Answer for Objective {
     }
 }
 impl Answer for opened::OpenRow {
-    fn print(&self) -> String {
+    fn print(&self, _: &Seen) -> String {
         let (nll, gradient, hessian, evaluations, refinement) = self;
         format!("{} {} {} {evaluations} {}\n", hex(*nll), hexes(gradient), hexes(hessian.iter().flatten()), hex(*refinement))
     }
@@ -184,13 +188,14 @@ pub fn judge<T: Answer>(
     let seen = hook::seen();
     let answer = match (given, hooked) {
         (Ok(Ok(a)), Ok(Ok(b))) => {
-            if a.print() != b.print() {
-                return Err(format!("the texts answer differently:\n{}\n{}", a.print(), b.print()));
+            let (said, other) = (a.print(&seen), b.print(&seen));
+            if said != other {
+                return Err(format!("the texts answer differently:\n{said}\n{other}"));
             }
             if a.evaluations() != seen.count || seen.reason != 0 {
                 return Err(format!("{} evaluations are told, {} seen, reason {}", a.evaluations(), seen.count, seen.reason));
             }
-            a.print()
+            said
         }
         (Ok(Err(a)), Ok(Err(b))) => {
             if a.code != b.code || a.message != b.message {
@@ -221,12 +226,25 @@ pub fn run(request: &Request, listing: bool) -> Result<(String, Seen), String> {
     )
 }
 
-pub fn fit(text: &[u8], listing: bool) -> Result<String, String> {
+/// What is printed after the answer.
+#[derive(Clone, Copy, PartialEq)]
+pub enum After {
+    Nothing,
+    /// Each evaluation.
+    List,
+    /// The gradient and the Hessian where the fit stopped, which have no line of their own.
+    Derivatives,
+}
+
+pub fn fit(text: &[u8], after: After) -> Result<String, String> {
     let request = match read(text) {
         Ok(request) => request,
         Err(line) => return Ok(format!("refused 4 0 {line}\n")),
     };
-    let (mut answer, seen) = run(&request, listing)?;
+    let (mut answer, seen) = run(&request, after == After::List)?;
+    if let (After::Derivatives, Some(stop)) = (after, seen.stop) {
+        let _ = writeln!(answer, "derivatives {} {}", hexes(&stop.gradient), hexes(stop.hessian.iter().flatten()));
+    }
     for e in seen.list {
         let x = hex(f64::from_bits(e.bits));
         let _ = writeln!(answer, "{} {}{x}", e.litter, if e.alone { "alone " } else { "" });

@@ -1,13 +1,14 @@
 // The oracle's program: reads requests or calls, runs the module on them and prints its answers in our format.
 // Exit status 2 where the text as given and the copy with hooks do not agree (answers.rs), or the use is wrong.
-use answers::{fit, hex, hexes, judge, number};
+use answers::{fit, hex, hexes, judge, number, After};
 use qspquest_core::probit_fit::BinomialLitter as Litter;
 use std::io::{BufWriter, Read, Write};
 
 const USAGE: &str = "usage: oracle COMMAND < INPUT
   fit               one request; the answer
   list              one request; the answer, then each evaluation: LITTER Z, or LITTER alone MEAN where the variance is 0
-  fit, list --framed  any number: a line `request N` and N bytes each; for each a line `answer N` and N bytes
+  derivatives       one request; the answer, then gradient{4} and hessian{16} where the fit stopped
+  fit, list, derivatives --framed  any number: a line `request N` and N bytes each; for each a line `answer N` and N bytes
   calls             one call a line, a word and its arguments; one line for each
   WORD              the same, with the arguments alone on each line
 WORD ARGUMENTS      prints
@@ -28,10 +29,10 @@ fn fail(message: &str) -> ! {
     std::process::exit(2)
 }
 
-fn framed(input: &[u8], out: &mut impl Write, listing: bool) -> Result<(), String> {
+fn framed(input: &[u8], out: &mut impl Write, what: After) -> Result<(), String> {
     let (mut at, mut position) = (0, 0);
     while let Some((text, after)) = answers::next(input, at)? {
-        let answer = fit(text, listing).map_err(|e| format!("request {position}, from 0: {e}"))?;
+        let answer = fit(text, what).map_err(|e| format!("request {position}, from 0: {e}"))?;
         write!(out, "answer {}\n{answer}", answer.len()).map_err(|e| e.to_string())?;
         (at, position) = (after, position + 1);
     }
@@ -146,7 +147,7 @@ fn call(word: &str, words: &mut Words) -> Result<String, String> {
 fn run(command: &[&str], out: &mut impl Write) -> Result<(), String> {
     let words = ["calls", "objective", "limited", "row", "normal", "mills", "conditional", "legendre", "tail_bound"];
     let known = match command {
-        ["fit" | "list"] | ["fit" | "list", "--framed"] => true,
+        ["fit" | "list" | "derivatives"] | ["fit" | "list" | "derivatives", "--framed"] => true,
         [word] => words.contains(word),
         _ => false,
     };
@@ -155,10 +156,14 @@ fn run(command: &[&str], out: &mut impl Write) -> Result<(), String> {
     }
     let mut input = Vec::new();
     std::io::stdin().read_to_end(&mut input).map_err(|e| e.to_string())?;
-    let listing = command[0] == "list";
+    let after = match command[0] {
+        "list" => After::List,
+        "derivatives" => After::Derivatives,
+        _ => After::Nothing,
+    };
     match command {
-        [_, "--framed"] => framed(&input, out, listing),
-        ["fit" | "list"] => out.write_all(fit(&input, listing)?.as_bytes()).map_err(|e| e.to_string()),
+        [_, "--framed"] => framed(&input, out, after),
+        ["fit" | "list" | "derivatives"] => out.write_all(fit(&input, after)?.as_bytes()).map_err(|e| e.to_string()),
         [word, ..] => {
             let text = String::from_utf8(input).map_err(|e| e.to_string())?;
             for line in text.lines() {

@@ -79,6 +79,11 @@ def ours(texts):
     return run([REPLAY], texts)
 
 
+def derivatives(texts):
+    """The answers of both, the oracle's first, each with gradient and Hessian after it."""
+    return run([OURS, "derivatives", "--framed"], texts), run([REPLAY, "derivatives"], texts)
+
+
 def parse(text):
     """The request of a well-formed text, else None."""
     form = (rb"probit-request 1\nmean 0 (\w{16}) (\w{16}) (\w{16})\nmean 1 (\w{16}) (\w{16}) (\w{16})\nsd 0 (\w{16}) (\w{16}) (\w{16})\nsd 1 (\w{16}) (\w{16}) (\w{16})\n"

@@ -21,7 +21,7 @@ pub unsafe extern "C" fn oracle_limit(text: *const u8, length: usize) -> u64 {
 /// The whole answer, into a buffer that holds any; its length.
 #[unsafe(no_mangle)]
 pub unsafe extern "C" fn oracle_answer(text: *const u8, length: usize, out: *mut u8) -> usize {
-    let answer = answers::fit(unsafe { bytes(text, length) }, false).unwrap_or_else(|e| e);
+    let answer = answers::fit(unsafe { bytes(text, length) }, answers::After::Nothing).unwrap_or_else(|e| e);
     let n = answer.len().min(4096);
     unsafe { std::ptr::copy_nonoverlapping(answer.as_ptr(), out, n) };
     n

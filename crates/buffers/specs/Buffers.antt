@@ -26,15 +26,30 @@ given value numbers counts = record { value = value; numbers = numbers; counts =
 abbrev unwritten : List Float → List ℕ → Given
 unwritten numbers counts = given 1 numbers counts
 
+abbrev four : List Float → ℕ → List Float
+four l i = getD l i nan ∷ getD l (i + 1) nan ∷ getD l (i + 2) nan ∷ getD l (i + 3) nan ∷ []
+
+-- a Hessian by rows
+abbrev rowsOf : List Float → List Float
+rowsOf h = four h 0 ++ (four h 4 ++ (four h 8 ++ four h 12))
+
 -- ---- a fit
 
--- twelve bounds, room for six numbers and ten counts
+-- twelve bounds, room for the first six numbers and ten counts
 unfoldable pub fitRoom : ℕ → ℕ → ℕ → Bool
 fitRoom bounds numbers counts = eqb bounds 12 && (leb 6 numbers && leb 10 counts)
 
 -- means, SDs, negative log-likelihood, norm of the projected gradient
-abbrev pub fitNumbers : Fit → List Float
-fitNumbers f = getD (f .means) 0 nan ∷ getD (f .means) 1 nan ∷ getD (f .sds) 0 nan ∷ getD (f .sds) 1 nan ∷ f .nll ∷ f .norm ∷ []
+abbrev pub firstNumbers : Fit → List Float
+firstNumbers f = getD (f .means) 0 nan ∷ getD (f .means) 1 nan ∷ getD (f .sds) 0 nan ∷ getD (f .sds) 1 nan ∷ f .nll ∷ f .norm ∷ []
+
+-- after them the variances, the gradient, the Hessian by rows
+abbrev pub allNumbers : Fit → List Float
+allNumbers f = firstNumbers f ++ ((getD (f .variances) 0 nan ∷ getD (f .variances) 1 nan ∷ four (f .gradient) 0) ++ rowsOf (f .hessian))
+
+-- of a buffer with n places: the first six where there is no room for all
+unfoldable pub fitNumbers : Fit → ℕ → List Float
+fitNumbers f n = cond (leb 28 n) (allNumbers f) (firstNumbers f)
 
 abbrev markAt : Fit → ℕ → ℕ
 markAt f i = cond (getD (f .active) i false) 1 0
@@ -46,7 +61,7 @@ fitCounts f =
     markAt f 2 ∷ markAt f 3 ∷ []
 
 unfoldable pub fitPut : Fit → List Float → List ℕ → Given
-fitPut f numbers counts = given (numberOf (f .end)) (stored numbers (fitNumbers f)) (stored counts (fitCounts f))
+fitPut f numbers counts = given (numberOf (f .end)) (stored numbers (fitNumbers f (length numbers))) (stored counts (fitCounts f))
 
 unfoldable pub fitGiven : Fit → List Float → List Float → List ℕ → Given
 fitGiven f bounds numbers counts = cond (fitRoom (length bounds) (length numbers) (length counts)) (fitPut f numbers counts) (unwritten numbers counts)
@@ -57,16 +72,9 @@ fitGiven f bounds numbers counts = cond (fitRoom (length bounds) (length numbers
 unfoldable pub objectiveRoom : ℕ → ℕ → ℕ → Bool
 objectiveRoom point numbers counts = eqb point 4 && (leb 22 numbers && leb 2 counts)
 
--- the four coordinates of a point
-abbrev pub pointOf : List Float → List Float
-pointOf p = getD p 0 nan ∷ getD p 1 nan ∷ getD p 2 nan ∷ getD p 3 nan ∷ []
-
-abbrev four : List Float → ℕ → List Float
-four l i = getD l i nan ∷ getD l (i + 1) nan ∷ getD l (i + 2) nan ∷ getD l (i + 3) nan ∷ []
-
 -- value, gradient, Hessian by rows, refinement
 abbrev pub objectiveNumbers : Objective → List Float
-objectiveNumbers o = (o .nll ∷ four (o .gradient) 0) ++ (four (o .hessian) 0 ++ (four (o .hessian) 4 ++ (four (o .hessian) 8 ++ (four (o .hessian) 12 ++ (o .refinement ∷ [])))))
+objectiveNumbers o = (o .nll ∷ four (o .gradient) 0) ++ (rowsOf (o .hessian) ++ (o .refinement ∷ []))
 
 -- evaluations, reason
 unfoldable pub objectiveCounts : Objective → List ℕ

@@ -7,7 +7,8 @@ ghost use mathlib.Core.Bool.{cond};
 ghost use mathlib.Core.List.{[]};
 ghost use Prim.Native.Nat.{_≤_};
 ghost use lib.ListN.{length};
-ghost use Rattle.buffers.specs.Buffers.{given, fitRoom, fitNumbers, fitCounts, fitPut, objectiveRoom, objectiveNumbers, objectiveCounts, objectivePut, summaryCounts, summaryPut};
+ghost use Rattle.put.specs.Stored.{stored};
+ghost use Rattle.buffers.specs.Buffers.{given, fitRoom, firstNumbers, allNumbers, fitNumbers, fitCounts, fitPut, objectiveRoom, objectiveNumbers, objectiveCounts, objectivePut, summaryCounts, summaryPut};
 
 pub fn fit_room(bounds: usize, numbers: usize, counts: usize) -> bool
     ensures { λ r. ⌜ r ≡ fitRoom bounds numbers counts ⌝ }
@@ -15,12 +16,66 @@ pub fn fit_room(bounds: usize, numbers: usize, counts: usize) -> bool
     num::both(bounds == 12, num::both(6 <= numbers, 10 <= counts))
 }
 
-fn fit_numbers(f: Fit) -> [f64; 6]
-    ensures { λ r. ⌜ r ≡ fitNumbers f ⌝ }
+fn first_numbers(f: Fit) -> [f64; 6]
+    ensures { λ r. ⌜ r ≡ firstNumbers f ⌝ }
 {
     let means = f.means;
     let sds = f.sds;
     [means[0], means[1], sds[0], sds[1], f.nll, f.norm]
+}
+
+fn all_numbers(f: Fit) -> [f64; 28]
+    ensures { λ r. ⌜ r ≡ allNumbers f ⌝ }
+{
+    let means = f.means;
+    let sds = f.sds;
+    let variances = f.variances;
+    let gradient = f.gradient;
+    let hessian = f.hessian;
+    [
+        means[0],
+        means[1],
+        sds[0],
+        sds[1],
+        f.nll,
+        f.norm,
+        variances[0],
+        variances[1],
+        gradient[0],
+        gradient[1],
+        gradient[2],
+        gradient[3],
+        hessian[0],
+        hessian[1],
+        hessian[2],
+        hessian[3],
+        hessian[4],
+        hessian[5],
+        hessian[6],
+        hessian[7],
+        hessian[8],
+        hessian[9],
+        hessian[10],
+        hessian[11],
+        hessian[12],
+        hessian[13],
+        hessian[14],
+        hessian[15],
+    ]
+}
+
+// A host built before the coordinates were reported lends six places, and has them filled as before.
+fn fit_numbers(f: Fit, numbers: &mut [f64])
+    requires { ⌜ 6 ≤ length (now numbers) ⌝ }
+    ensures { λ r. ⌜ now (numbers .exit) ≡ stored (now (numbers .entry)) (fitNumbers f (length (now (numbers .entry)))) ⌝ }
+{
+    if 28 <= numbers.len() {
+        let all = all_numbers(f);
+        put::numbers(&all, numbers);
+        return;
+    }
+    let first = first_numbers(f);
+    put::numbers(&first, numbers);
 }
 
 fn mark(on: bool) -> u64
@@ -53,10 +108,9 @@ pub fn put_fit(f: Fit, numbers: &mut [f64], counts: &mut [u64]) -> u64
     requires { ⌜ (6 ≤ length (now numbers)) × (10 ≤ length (now counts)) ⌝ }
     ensures { λ r. ⌜ given r (now (numbers .exit)) (now (counts .exit)) ≡ fitPut f (now (numbers .entry)) (now (counts .entry)) ⌝ }
 {
-    let n = fit_numbers(f);
     let c = fit_counts(f);
     let end = f.end;
-    put::numbers(&n, numbers);
+    fit_numbers(f, numbers);
     put::counts(&c, counts);
     work::number(end)
 }

@@ -36,7 +36,7 @@ module _ (r : Request) (n : ℕ) (d : Course) where
   unfolding reportedOf
   reported-stops f t u = rw t u
 
-  pub reported-gives : (lo hi s : List Float) (m : Float) (a : List Bool) → isRefused (d .end) ≡ false → lo ≡ lowOf r → hi ≡ highOf r → s ≡ sdsOf r (d .x) → m ≡ normAt lo hi (d .x) (d .v) → a ≡ activeOf (getD (d .x) 0 nan ∷ getD (d .x) 1 nan ∷ getD (d .x) 2 nan ∷ getD (d .x) 3 nan ∷ []) lo hi → record { end = Answered; status = d .status; means = getD (d .x) 0 nan ∷ getD (d .x) 1 nan ∷ []; sds = getD s 0 nan ∷ getD s 1 nan ∷ []; nll = d .v .nll; norm = m; evaluations = d .evaluations; iterations = d .iterations; quadrature = record { 0 = d .used }; litters = n; active = a } ≡ reportedOf r n d
+  pub reported-gives : (lo hi s : List Float) (m : Float) (a : List Bool) → isRefused (d .end) ≡ false → lo ≡ lowOf r → hi ≡ highOf r → s ≡ sdsOf r (d .x) → m ≡ normAt lo hi (d .x) (d .v) → a ≡ activeOf (getD (d .x) 0 nan ∷ getD (d .x) 1 nan ∷ getD (d .x) 2 nan ∷ getD (d .x) 3 nan ∷ []) lo hi → record { end = Answered; status = d .status; means = getD (d .x) 0 nan ∷ getD (d .x) 1 nan ∷ []; sds = getD s 0 nan ∷ getD s 1 nan ∷ []; variances = getD (d .x) 2 nan ∷ getD (d .x) 3 nan ∷ []; nll = d .v .nll; norm = m; gradient = d .v .gradient; hessian = d .v .hessian; evaluations = d .evaluations; iterations = d .iterations; quadrature = record { 0 = d .used }; litters = n; active = a } ≡ reportedOf r n d
   unfolding reportedOf sdsOf activeOf
   reported-gives lo hi s m a t e f g h k = rw (t, g, h, k, e, f)
 

@@ -41,8 +41,11 @@ pub record Report : Type 0 where
   pub status : Status
   pub means : List Float
   pub sds : List Float
+  pub variances : List Float
   pub nll : Float
   pub norm : Float
+  pub gradient : List Float
+  pub hessian : List Float
   pub evaluations : ℕ
   pub iterations : ℕ
   pub litters : ℕ
@@ -71,8 +74,11 @@ reportOf r n status x v e k =
       status = status;
       means = getD x 0 nan ∷ getD x 1 nan ∷ [];
       sds = sdsOf r x;
+      variances = getD x 2 nan ∷ getD x 3 nan ∷ [];
       nll = v .nll;
       norm = normAt (lowOf r) (highOf r) x v;
+      gradient = v .gradient;
+      hessian = v .hessian;
       evaluations = e;
       iterations = k;
       litters = n;
@@ -95,8 +101,11 @@ toFit end n p =
       status = p .status;
       means = p .means;
       sds = p .sds;
+      variances = p .variances;
       nll = p .nll;
       norm = p .norm;
+      gradient = p .gradient;
+      hessian = p .hessian;
       evaluations = record { 0 = p .evaluations };
       iterations = record { 0 = p .iterations };
       quadrature = record { 0 = n };
@@ -106,7 +115,20 @@ toFit end n p =
 
 abbrev pub noReport : Report
 noReport =
-    record { status = NoStatus; means = replicate 2 zero·; sds = replicate 2 zero·; nll = zero·; norm = zero·; evaluations = 0; iterations = 0; litters = 0; active = replicate 4 false }
+    record {
+      status = NoStatus;
+      means = replicate 2 zero·;
+      sds = replicate 2 zero·;
+      variances = replicate 2 zero·;
+      nll = zero·;
+      norm = zero·;
+      gradient = replicate 4 zero·;
+      hessian = replicate 16 zero·;
+      evaluations = 0;
+      iterations = 0;
+      litters = 0;
+      active = replicate 4 false;
+    }
 
 -- a refusal: its ending and its count, and zeros
 abbrev pub refusedOf : Ending → ℕ → Fit

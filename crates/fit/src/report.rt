@@ -11,14 +11,17 @@ use work::QuadratureEvaluations;
 ghost use mathlib.Core.Path.{_≡_};
 ghost use Rattle.fit.specs.Fit.{planOf, sdsOf, onBound, activeOf, refusedOf, reportedOf, seenOf, fitOf, watchedOf};
 
-// `active` marks the coordinates that lie on a bound: two means, then two variances.
+// The coordinates are two means, then two variances: gradient, Hessian (by rows) and `active`, which marks those that lie on a bound, go by them.
 pub struct Fit {
     pub end: Ending,
     pub status: Status,
     pub means: [f64; 2],
     pub sds: [f64; 2],
+    pub variances: [f64; 2],
     pub nll: f64,
     pub norm: f64,
+    pub gradient: [f64; 4],
+    pub hessian: [f64; 16],
     pub evaluations: FitEvaluations,
     pub iterations: Iterations,
     pub quadrature: QuadratureEvaluations,
@@ -39,8 +42,11 @@ fn refusal(end: Ending, used: QuadratureEvaluations) -> Fit
         status: Status::NoStatus,
         means: [0.0; 2],
         sds: [0.0; 2],
+        variances: [0.0; 2],
         nll: 0.0,
         norm: 0.0,
+        gradient: [0.0; 4],
+        hessian: [0.0; 16],
         evaluations: FitEvaluations(0),
         iterations: Iterations(0),
         quadrature: used,
@@ -93,21 +99,23 @@ fn reported(r: Request, n: u64, d: Course) -> Fit
 {
     let end = d.end;
     let quadrature = QuadratureEvaluations(d.used);
-    if work::refused(end) {
-        return refusal(end, quadrature);
-    }
-    let lo = request::low(r);
-    let hi = request::high(r);
     let x = d.x;
     let v = d.v;
     let a = x[0];
     let b = x[1];
     let c = x[2];
     let e = x[3];
+    if work::refused(end) {
+        return refusal(end, quadrature);
+    }
+    let lo = request::low(r);
+    let hi = request::high(r);
     let s = sds(r, x);
     let first = s[0];
     let second = s[1];
     let status = d.status;
+    let gradient = v.gradient;
+    let hessian = v.hessian;
     let evaluations = d.evaluations;
     let iterations = d.iterations;
     Fit {
@@ -115,8 +123,11 @@ fn reported(r: Request, n: u64, d: Course) -> Fit
         status,
         means: [a, b],
         sds: [first, second],
+        variances: [c, e],
         nll: v.nll,
         norm: trial::norm_at(lo, hi, x, v),
+        gradient,
+        hessian,
         evaluations,
         iterations,
         quadrature,

@@ -5,3 +5,4 @@ pub mod Bound
 pub mod Refused
 pub mod Reasons
 pub mod Checks
+pub mod Coordinates

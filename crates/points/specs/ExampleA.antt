@@ -1,9 +1,10 @@
 -- Example A of document 01: its whole answer, as antt computes it from the fit's definition; and its refusals.
 use mathlib.Core.Path.{_≡_, refl}
 use mathlib.Core.Bool.{true, false}
-use mathlib.Core.List.{List, [], _∷_}
+use mathlib.Core.List.{List, [], _∷_, _++_}
 use Prim.Native.Nat.{ℕ}
 use lib.Count.{leadingZeros}
+use lib.ListN.{replicate}
 use lib.Ieee.{Float, add, sub, mul, div, neg, lt, le, eq, ne, ofBits, ofInt, toBits}
 use Rattle.num.specs.F64.{bits}
 use Rattle.num.specs.Helpers.{absOf, isFinite, maxOf, minOf, clampOf, powiFrom, powiOf}
@@ -37,6 +38,10 @@ use Rattle.fit.specs.Fit.{activeOf, sdsOf, fit, limitedFit, fitOf, refusedOf}
 abbrev pub both : Float → List Float
 both x = x ∷ x ∷ []
 
+-- a Hessian by rows that is nothing off its diagonal, the same for both groups: of a mean, of a variance
+abbrev diagonal : Float → Float → List Float
+diagonal m v = (m ∷ replicate 4 (bits 0)) ++ ((m ∷ replicate 4 (bits 0)) ++ ((v ∷ replicate 4 (bits 0)) ++ (v ∷ [])))
+
 -- means within [-1, 1] and SDs within [0, 1], all from 0; 10 evaluations, tolerance 2^-20
 abbrev pub example-a : ℕ → ℕ → Request
 example-a iterations quadrature =
@@ -60,8 +65,11 @@ answer-a =
       status = Converged;
       means = both (bits 0);
       sds = both (bits 0);
+      variances = both (bits 0);
       nll = bits 0x4006_2e42_fefa_39ef;
       norm = bits 0;
+      gradient = both (bits 0) ++ both (bits 0x3ff4_5f30_6dc9_c883);
+      hessian = diagonal (bits 0x4004_5f30_6dc9_c883) (bits 0xbffb_c649_2a82_2d76);
       evaluations = record { 0 = 1 };
       iterations = record { 0 = 0 };
       quadrature = record { 0 = 4 };

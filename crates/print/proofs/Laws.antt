@@ -67,7 +67,7 @@ pub then-text : (a b l l₁ l₂ : List ℕ) (at r₁ : ℕ) → l₁ ≡ writte
 then-text a b l l₁ l₂ at r₁ e p q = rw (written-append, ← e, ← p) q
 
 -- ---- the room that the numbers take
-pub numbers-most : (vs : List ℕ) (at r : ℕ) → r ≡ at + length (render report vs) → r ≤ at + 265
+pub numbers-most : (vs : List ℕ) (at r : ℕ) → r ≡ at + length (render report vs) → r ≤ at + 308
 numbers-most vs at r p = let h = length-render report vs in omega (arith, h, report-width)
 
 -- ---- the marks' line: t is the test that one is set

@@ -25,14 +25,14 @@ statusText LineSearchFailed = ascii "status line-search-failed\n"
 
 -- the SDs' line stands twice, as document 01 shows it
 abbrev pub report : List ℕ
-report = ascii "mean % %\nsd % %\nsd % %\nnll %\ngradient %\ncounts # # #\nlitters #\nactive"
+report = ascii "mean % %\nsd % %\nsd % %\nvariance % %\nnll %\ngradient %\ncounts # # #\nlitters #\nactive"
 
 -- any NaN has the bits 7ff8000000000000
 abbrev pub reportValues : Fit → List ℕ
 reportValues f =
     bitsOf (getD (f .means) 0 nan) ∷ bitsOf (getD (f .means) 1 nan) ∷ bitsOf (getD (f .sds) 0 nan) ∷ bitsOf (getD (f .sds) 1 nan) ∷
-    bitsOf (getD (f .sds) 0 nan) ∷ bitsOf (getD (f .sds) 1 nan) ∷ bitsOf (f .nll) ∷ bitsOf (f .norm) ∷ f .evaluations .0 ∷ f .iterations .0 ∷
-    f .quadrature .0 ∷ f .litters ∷ []
+    bitsOf (getD (f .sds) 0 nan) ∷ bitsOf (getD (f .sds) 1 nan) ∷ bitsOf (getD (f .variances) 0 nan) ∷ bitsOf (getD (f .variances) 1 nan) ∷ bitsOf (f .nll) ∷
+    bitsOf (f .norm) ∷ f .evaluations .0 ∷ f .iterations .0 ∷ f .quadrature .0 ∷ f .litters ∷ []
 
 abbrev pub mark : Bool → List ℕ → List ℕ
 mark on text = cond on text []

@@ -14,9 +14,9 @@ use Rattle.form.specs.Form.{ascii}
 use Rattle.render.specs.Width.{width, length-render}
 use Rattle.print.specs.Answer.{refusalText, statusText, report, reportValues, activeText, reportText, fitText}
 
--- 26 for a status, 265 for the report and 9 for the marks, at twenty digits a count
+-- 26 for a status, 308 for the report and 9 for the marks, at twenty digits a count
 abbrev pub longest : ℕ
-longest = 300
+longest = 343
 
 -- what is asked of a buffer: the rest is for lines to come, so that hosts keep theirs
 abbrev pub room : ℕ
@@ -34,7 +34,7 @@ status-fits EvaluationLimit = lit≤ tt
 status-fits IterationLimit = lit≤ tt
 status-fits LineSearchFailed = lit≤ tt
 
-pub report-width : width report ≡ 265
+pub report-width : width report ≡ 308
 unfolding width
 report-width = refl
 

@@ -43,11 +43,12 @@ fn status(s: Status, out: &mut [u8], at: usize) -> usize
 }
 
 // The SDs stand twice, as in the form.
-fn values(f: Fit) -> [u64; 12]
+fn values(f: Fit) -> [u64; 14]
     ensures { λ r. ⌜ r ≡ reportValues f ⌝ }
 {
     let means = f.means;
     let sds = f.sds;
+    let variances = f.variances;
     let sd = bits(sds[0]);
     let other = bits(sds[1]);
     [
@@ -57,6 +58,8 @@ fn values(f: Fit) -> [u64; 12]
         other,
         sd,
         other,
+        bits(variances[0]),
+        bits(variances[1]),
         bits(f.nll),
         bits(f.norm),
         f.evaluations.0,
@@ -120,7 +123,7 @@ fn report(f: Fit, out: &mut [u8]) -> usize
     let numbers = values(f);
     let first = status(how, out, 0);
     let second = render::put(
-        b"mean % %\nsd % %\nsd % %\nnll %\ngradient %\ncounts # # #\nlitters #\nactive",
+        b"mean % %\nsd % %\nsd % %\nvariance % %\nnll %\ngradient %\ncounts # # #\nlitters #\nactive",
         &numbers,
         out,
         first,

@@ -17,7 +17,8 @@ ghost use Rattle.request.specs.Request.{requestOf};
 ghost use Rattle.text.specs.Answer.{answerText};
 ghost use Rattle.print.specs.Room.{room};
 ghost use Rattle.intervals.specs.Intervals.{filled, intervalsFilled};
-ghost use Rattle.buffers.specs.Buffers.{given, fitGiven, pointOf, objectiveGiven, summaryGiven};
+ghost use Rattle.objective.specs.Coordinates.{pointOf};
+ghost use Rattle.buffers.specs.Buffers.{given, fitGiven, objectiveGiven, summaryGiven};
 ghost use Rattle.parts.specs.Lent.{lent, told, partIn, finishIn};
 ghost use Rattle.probit.specs.Joined.{answered, answerIn};
 
@@ -129,9 +130,9 @@ pub extern "C" fn probit_intervals(
 // The interface's version: 1000 times its first number, and its second.
 #[no_mangle]
 pub extern "C" fn probit_version() -> u64
-    ensures { λ r. ⌜ r ≡ 1002 ⌝ }
+    ensures { λ r. ⌜ r ≡ 1003 ⌝ }
 {
-    1002
+    1003
 }
 
 // A request's bytes in, its answer's bytes out: how many, or 0 where `out` has fewer than 512 bytes, and then it is left as it was.
