@@ -2,3 +2,5 @@ pub mod Status
 pub mod Descent
 pub mod Stopping
 pub mod Refusals
+pub mod Claims
+pub mod Points

@@ -9,8 +9,6 @@ use lib.ListN.{getD}
 use lib.Ieee.{Float, nan}
 use Rattle.work.specs.declared.Ending.the-variants.{Answered, InvalidInput}
 use Rattle.work.specs.Ended.{isRefused}
-use Rattle.work.specs.Metered.{past, branch, gives, gives-up}
-use Rattle.work.specs.Through.{driven-is}
 use Rattle.legendre.specs.declared.Pair.{Pair}
 use Rattle.legendre.specs.Legendre.{legendreOf}
 use Rattle.posterior.specs.Integrand.{at}
@@ -26,9 +24,8 @@ use Rattle.fit.specs.declared.report.Seen.{Seen}
 use Rattle.why.specs.declared.Why.the-variants.{Unmade}
 use Rattle.request.specs.Request.{upTo, admits, validBoxes, validControls, validLimit, startOf, lowOf, highOf}
 use Rattle.trial.specs.Judged.{normAt}
-use Rattle.course.specs.Course.{noDescended}
-use Rattle.course.specs.Drives.{courseOf}
-use Rattle.fit.specs.Fit.{sdsOf, activeOf, refusedOf, wholeOf, reportedOf, fit, limitedFit, seenOf, whyFor, watchedOf, fitOf}
+use Rattle.fit.specs.Fit.{sdsOf, activeOf, refusedOf, reportedOf, seenOf, whyFor, watchedOf, fitOf}
+use Rattle.fit.specs.Driven.{admitted-is, not-admitted-is}
 
 -- ---- the report
 module _ (r : Request) (n : ℕ) (d : Course) where
@@ -41,15 +38,6 @@ module _ (r : Request) (n : ℕ) (d : Course) where
   reported-gives lo hi s m a t e f g h k = rw (t, g, h, k, e, f)
 
 module _ (r : Request) (ls : List ℕ) (n : ℕ) where
-  -- ---- the fit
-  admitted-is : admits r ls ≡ true → limitedFit (r .quadrature .0) r ls ≡ reportedOf r (countOf ls) (wholeOf r ls n)
-  unfolding limitedFit fit wholeOf courseOf reportedOf
-  admitted-is h = rw (branch, h, past noDescended, gives, driven-is)
-
-  not-admitted-is : admits r ls ≡ false → limitedFit (r .quadrature .0) r ls ≡ refusedOf InvalidInput 0
-  unfolding limitedFit fit
-  not-admitted-is h = rw (branch, h, gives-up)
-
   module _ (l : Bool) (e : l ≡ validLimit (r .quadrature .0)) where
     pub fit-limit : (f : Fit) → l ≡ false → f ≡ refusedOf InvalidInput 0 → record { fit = f; why = Unmade } ≡ watchedOf r ls n
     unfolding watchedOf fitOf whyFor
@@ -58,11 +46,11 @@ module _ (r : Request) (ls : List ℕ) (n : ℕ) where
     module _ (t : l ≡ true) (a : Bool) (k : a ≡ admits r ls) where
       pub fit-refused : (f : Fit) → a ≡ false → f ≡ refusedOf InvalidInput 0 → record { fit = f; why = Unmade } ≡ watchedOf r ls n
       unfolding watchedOf fitOf whyFor
-      fit-refused f h u = rw (← e, t, not-admitted-is (sym k ∙ h), ← k, h, u)
+      fit-refused f h u = rw (← e, t, not-admitted-is r ls (sym k ∙ h), ← k, h, u)
 
       pub fit-goes : (s : Seen) → a ≡ true → s ≡ seenOf r ls n → s ≡ watchedOf r ls n
       unfolding watchedOf fitOf whyFor seenOf
-      fit-goes s h u = rw (← e, t, admitted-is (sym k ∙ h), ← k, h) u
+      fit-goes s h u = rw (← e, t, admitted-is r ls n (sym k ∙ h), ← k, h) u
 
 pub the-fit : (r : Request) (ls : List ℕ) (n : ℕ) (s : Seen) → s ≡ watchedOf r ls n → s .fit ≡ fitOf r ls
 unfolding watchedOf

@@ -13,4 +13,4 @@ is-rounding-spec =
     (λ c κs. search needs)
     (λ c κs. search needs)
     (λ c κs. search needs)
-    (λ c. cc))
+    (λ c. rw (c .both2 .ensures, c .before .both .ensures, c .before .before .abs .ensures, c .before .before .before .allowance .ensures)))

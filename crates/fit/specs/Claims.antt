@@ -1,0 +1,114 @@
+-- Whether a fit may come out worse than its start: said of the record that the code returns and of its own list of trials.
+use mathlib.Core.Path.{_≡_, refl, ap, sym, _∙_}
+use mathlib.Core.Bool.{true, false}
+use mathlib.Core.List.{List}
+use Prim.Native.Nat.{ℕ, zero, suc, _+_}
+use lib.Dec.{T}
+use lib.Ieee.{Float, binary64, le, isNan, fits}
+use lib.Ieee.Bits.{ofBits-fits}
+use lib.Ieee.Fits.{add-fits}
+use Rattle.work.specs.declared.Ending.the-variants.{Answered}
+use Rattle.work.specs.Ended.{Ended, done, valueOr}
+use Rattle.work.specs.Work.{run}
+use Rattle.work.specs.Given.{Always, holds, refuses, tested, passed, anything, of-run}
+use Rattle.legendre.specs.declared.Pair.{Pair}
+use Rattle.legendre.specs.Legendre.{legendreOf}
+use Rattle.posterior.specs.Integrand.{at}
+use Rattle.value.specs.declared.Totals.{Totals}
+use Rattle.value.specs.Totals.{noTotals}
+use Rattle.objective.specs.Litters.{countOf}
+use Rattle.objective.specs.Objective.{shareAt, rows, admits, objective, objectiveOf}
+use Rattle.objective.specs.Bound.{objective-in-full}
+use Rattle.descent.specs.declared.Trial.{Trial}
+use Rattle.descent.specs.declared.Trial.the-variants.{ByRounding}
+use Rattle.descent.specs.Claims.{roundingsOf, raisedBy, Among, Descends, Rounded, unraised, led-evaluated, rounding-step, at-most-raised, descends-by-trials}
+use Rattle.descent.specs.Points.{Place, place, point-value, of-driven}
+use Rattle.request.specs.declared.Request.{Request}
+use Rattle.request.specs.Request.{startOf}
+use Rattle.stepper.specs.Machine.{problemOf}
+use Rattle.course.specs.Course.{trialsIn}
+use Rattle.drive.specs.Drive.{valueAt}
+use Rattle.fit.specs.declared.report.Fit.{Fit}
+use Rattle.fit.specs.Fit.{planOf, reportOf, toFit, fitOf}
+use Rattle.fit.specs.Driven.{descentOf, trialsOf, pointsOf, Ends, ends}
+
+-- the starting likelihood: the objective's, called alone at the start
+abbrev pub startingOf : Request → List ℕ → Float
+startingOf r ls = objectiveOf (startOf r) ls .nll
+
+-- ---- an objective's likelihood is a sum, so it fits its format
+module _ (rule : List Pair) (x : List Float) (ls : List ℕ) where
+  abbrev Fitting : Totals → Type 0
+  Fitting t = T (fits binary64 (t .nll))
+
+  rows-fit : (n i : ℕ) (t : Totals) → Fitting t → Always Fitting (rows rule x ls n i t)
+  unfolding rows
+  rows-fit zero i t f = holds f
+  rows-fit (suc n) i t f = passed {P = λ s. Unit {0}} (anything (λ s. tt) (shareAt rule x ls i)) (λ s u. rows-fit n (i + 1) _ (add-fits binary64 (t .nll) (s .nll)))
+
+  objective-fits : Always Fitting (objective rule x ls)
+  unfolding objective
+  objective-fits = tested (admits x ls) (λ t. rows-fit (countOf ls) 0 noTotals (ofBits-fits binary64 0)) (λ t. refuses)
+
+-- the bound of equal numbers and equal trials
+carried : {a b c d : Float} {ts us : List Trial} → a ≡ b → ts ≡ us → c ≡ d → le b (raisedBy us d) ≡ true → le a (raisedBy ts c) ≡ true
+carried {b = b} {c = c} {ts = ts} {us = us} e f g k = ap (λ y. le y (raisedBy ts c)) e ∙ (ap (λ ws. le b (raisedBy ws c)) f ∙ (ap (λ y. le b (raisedBy us y)) g ∙ k))
+
+module _ (r : Request) (ls : List ℕ) where
+  -- a point at which the fit had its objective evaluated, and its value there
+  abbrev pub Visited : List Float → Totals → Type 0
+  Visited x v = Among (place x v) (pointsOf r ls)
+
+  visited-value : (x : List Float) (v : Totals) → Visited x v → run at (objective legendreOf x ls) ≡ done v
+  unfolding pointsOf
+  visited-value x v m = point-value at (valueAt legendreOf ls) _ (place x v) m
+
+  visited-fits : (x : List Float) (v : Totals) → Visited x v → T (fits binary64 (v .nll))
+  visited-fits x v m = of-run at (λ e. tt) v (objective-fits legendreOf x ls) (visited-value x v m)
+
+  starting-is : (v : Totals) → Visited (startOf r) v → startingOf r ls ≡ v .nll
+  starting-is v m = ap (λ o. o .nll) (objective-in-full (startOf r) ls) ∙ ap (λ (e : Ended Totals). valueOr noTotals e .nll) (visited-value (startOf r) v m)
+
+  -- a report of a point and its value that are among those
+  pub record Reports (f : Fit) : Type 0 where
+    pub x : List Float
+    pub v : Totals
+    pub visited : Visited x v
+    pub value : run at (objective legendreOf x ls) ≡ done v
+    pub report : f ≡ toFit Answered (f .quadrature .0) (reportOf r (countOf ls) (f .status) x v (f .evaluations .0) (f .iterations .0))
+
+  module _ (h : fitOf r ls .end ≡ Answered) where
+    led : Descends (problemOf (planOf r)) Visited (startOf r) (ends r ls h .d)
+    unfolding descentOf pointsOf
+    led = of-driven at (valueAt legendreOf ls) (r .quadrature .0) (pointsOf r ls) 0 (ends r ls h .d) (descends-by-trials (problemOf (planOf r)) Visited (startOf r)) (λ y m. m) (ends r ls h .ended)
+
+    trials-are : trialsOf r ls ≡ ends r ls h .d .trials
+    unfolding trialsOf
+    trials-are = ap (λ e. trialsIn e (descentOf r ls .asked)) (ends r ls h .ended)
+
+    nll-is : fitOf r ls .nll ≡ ends r ls h .d .v .nll
+    nll-is = ap (λ f. f .nll) (ends r ls h .is)
+
+    start-is : startingOf r ls ≡ led .start .nll
+    start-is = starting-is (led .start) (led .evaluated)
+
+    -- Every answered fit whose start is no NaN: the reported likelihood is at most the start's, raised by the allowance of each step by the rounding rule.
+    pub fit-at-most : isNan (startingOf r ls) ≡ false → le (fitOf r ls .nll) (raisedBy (trialsOf r ls) (startingOf r ls)) ≡ true
+    fit-at-most n =
+        carried nll-is trials-are start-is
+        (at-most-raised (problemOf (planOf r)) Visited (startOf r) (led .start) (led .evaluated) visited-fits (sym (ap (λ y. isNan y) start-is) ∙ n) (led .led))
+
+    -- Where no step was taken by the rounding rule, it is at most the start's.
+    pub fit-not-worse : isNan (startingOf r ls) ≡ false → roundingsOf (trialsOf r ls) ≡ 0 → le (fitOf r ls .nll) (startingOf r ls) ≡ true
+    fit-not-worse n z = let k = fit-at-most n in rw (unraised (trialsOf r ls) (startingOf r ls) z) at k
+
+    -- A step by the rounding rule, of allowance a, was between two evaluated points, and ends at no more than the f64 sum of the likelihood before it and a.
+    pub fit-rounding-step : (a : Float) → Among (ByRounding a) (trialsOf r ls) → Rounded (problemOf (planOf r)) Visited a
+    fit-rounding-step a m = rounding-step (problemOf (planOf r)) Visited (startOf r) (led .start) (led .evaluated) a (led .led) (rw trials-are at m)
+
+    -- The reported point is one that was evaluated, with the value it had.
+    pub fit-visited : Reports (fitOf r ls)
+    fit-visited =
+        let e = ends r ls h in
+        let m = led-evaluated (problemOf (planOf r)) Visited (startOf r) (led .start) (led .evaluated) (led .led) in
+        record { x = e .d .x; v = e .d .v; visited = m; value = visited-value (e .d .x) (e .d .v) m; report = rw (e .is) }
