@@ -23,7 +23,7 @@ extern "C" {
 /* ---- The version of this interface: 1000 times the first number, and the second. The second rises when something is added, the first when something
  * here changes or goes. A library fits a host if its first number is the header's and its version is no less:
  *   probit_version() / 1000 == PROBIT_VERSION / 1000 && probit_version() >= PROBIT_VERSION */
-#define PROBIT_VERSION 1003
+#define PROBIT_VERSION 1004
 
 uint64_t probit_version(void);
 
@@ -50,7 +50,7 @@ enum { PROBIT_AFFECTED, PROBIT_PUPS, PROBIT_GROUP };
  * probit_names.h has these, the reasons and the statuses in words, for a log. */
 enum {
     PROBIT_ANSWERED = 0,
-    PROBIT_INVALID_INPUT = 1, /* a length, a bound, a limit or a litter is not as asked */
+    PROBIT_INVALID_INPUT = 1, /* a length, a bound, a limit or a litter is not as asked; no evaluation was made */
     PROBIT_DOMAIN = 2,        /* the numbers led nowhere; the reason is one of those below */
     PROBIT_WORK_BUDGET = 3,   /* the limit of quadrature evaluations was met before the answer */
     PROBIT_FORM = 4,          /* in text alone: the request has not the form, and a line's number stands for the reason */
@@ -62,9 +62,10 @@ enum {
     PROBIT_NO_REASON = 0,
     PROBIT_MODE_NOT_BRACKETED = 1,
     PROBIT_MODE_NOT_CONVERGED = 2,
-    PROBIT_TAIL_NOT_BOUNDED = 3,
+    PROBIT_TAIL_NOT_BOUNDED = 3, /* by a number at most its goal */
     PROBIT_NOT_FINITE = 4, /* an integral or a derivative, or the total is not positive */
-    PROBIT_REFINEMENT_NOT_CONVERGED = 5
+    PROBIT_REFINEMENT_NOT_CONVERGED = 5,
+    PROBIT_TOTAL_NOT_FINITE = 6 /* of no litter: an entry of the likelihood, the gradient or the Hessian, with all litters summed */
 };
 
 /* ---- How an answered fit stopped; a refusal has PROBIT_NO_STATUS. */

@@ -25,6 +25,7 @@ static inline const char *probit_reason_name(uint64_t reason) {
     case PROBIT_TAIL_NOT_BOUNDED: return "tail not bounded";
     case PROBIT_NOT_FINITE: return "not finite";
     case PROBIT_REFINEMENT_NOT_CONVERGED: return "refinement not converged";
+    case PROBIT_TOTAL_NOT_FINITE: return "total not finite";
     default: return "unknown";
     }
 }

@@ -18,7 +18,7 @@ pub struct Stop {
 
 pub struct Seen {
     pub count: usize,
-    /// 1 to 5, or 0 where none was met.
+    /// 1 to 6, or 0 where none was met.
     pub reason: u32,
     /// Of a fit that was answered.
     pub stop: Option<Stop>,

@@ -1,7 +1,8 @@
 // Calls the inner functions of the module and ours with the same arguments, and holds their answers together to the bit; any NaN equals any other.
-// leaves SEED NUMBER. Of a thousand calls ten are litters and one is an objective. A difference is cut down, printed as a call of the driver, and ends the run with 1.
+// leaves SEED NUMBER. Of a thousand calls ten are litters, ten sums of all litters and one is an objective. A difference is cut down, printed as a call of the driver
+// (a sum, which the driver cannot be given, by its numbers), and ends the run with 1.
 use answers::{hexes, judge};
-use qspquest_core::probit_fit::BinomialLitter as Litter;
+use qspquest_core::probit_fit::{BinomialLitter as Litter, ProbitNormalObjective as Objective};
 use std::collections::BTreeMap;
 
 unsafe extern "C" {
@@ -18,6 +19,7 @@ unsafe extern "C" {
         x0: f64, x1: f64, x2: f64, x3: f64, litters: *const u32, litters_len: usize, limit: u64,
         out: *mut f64, out_len: usize, counts: *mut u64, counts_len: usize,
     ) -> u64;
+    fn leaf_total(v: *const f64, v_len: usize, used: u64, out: *mut f64, out_len: usize, counts: *mut u64, counts_len: usize) -> u64;
 }
 
 /// No litter asks for as many.
@@ -126,7 +128,7 @@ impl Draw {
 struct Call {
     word: &'static str,
     reals: [f64; 5],
-    /// Successes and total; or of an objective group, successes, total for each litter.
+    /// Successes and total; or of an objective group, successes, total for each litter; or of a sum the bits of its 22 numbers.
     wholes: Vec<u64>,
     limit: u64,
 }
@@ -147,8 +149,12 @@ impl Call {
         match self.word {
             "limited" => format!("limited {} {reals}{wholes}", self.limit),
             "row" => format!("row {reals}{wholes} {}", self.limit),
+            "total" => format!("total {}", hexes(&self.sum())),
             word => format!("{word} {reals}{wholes}"),
         }
+    }
+    fn sum(&self) -> [f64; 22] {
+        std::array::from_fn(|i| f64::from_bits(self.wholes[i]))
     }
     fn litter(&self) -> Litter {
         Litter { successes: self.wholes[0] as u32, total: self.wholes[1] as u32, group: 0 }
@@ -192,6 +198,20 @@ fn both(c: &Call) -> (String, String) {
             let oracle = judge(limit, false, || opened::open_limited(point, &litters, limit), || hooked::open_limited(point, &litters, limit));
             let (mut out, mut counts) = ([0.; 22], [0; 3]);
             shut(unsafe { leaf_objective(x[0], x[1], x[2], x[3], flat.as_ptr(), flat.len(), c.limit, out.as_mut_ptr(), 22, counts.as_mut_ptr(), 3) });
+            (said(oracle), line(&out, &counts))
+        }
+        "total" => {
+            let v = c.sum();
+            let total = || Objective {
+                negative_log_likelihood: v[0],
+                gradient: std::array::from_fn(|i| v[1 + i]),
+                hessian: std::array::from_fn(|i| std::array::from_fn(|j| v[5 + 4 * i + j])),
+                quadrature_evaluations: 0,
+                quadrature_refinement: v[21],
+            };
+            let oracle = judge(0, false, || opened::open_total(total()), || hooked::open_total(total()));
+            let (mut out, mut counts) = ([0.; 22], [0; 3]);
+            shut(unsafe { leaf_total(v.as_ptr(), 22, 0, out.as_mut_ptr(), 22, counts.as_mut_ptr(), 3) });
             (said(oracle), line(&out, &counts))
         }
         _ => {
@@ -251,7 +271,7 @@ fn same(x: f64, y: f64) -> bool {
 }
 
 fn differs(c: &Call) -> bool {
-    if matches!(c.word, "row" | "limited") {
+    if matches!(c.word, "row" | "limited" | "total") {
         let (oracle, ours) = both(c);
         return oracle != ours;
     }
@@ -311,7 +331,7 @@ fn cut(mut c: Call) -> Call {
 
 fn check(c: &Call, met: &mut BTreeMap<String, u64>) -> u64 {
     let mut used = 0;
-    let wrong = if matches!(c.word, "row" | "limited") {
+    let wrong = if matches!(c.word, "row" | "limited" | "total") {
         let (oracle, ours) = both(c);
         let words: Vec<&str> = oracle.split_whitespace().collect();
         let name = match words[..] {
@@ -371,6 +391,15 @@ fn draw(d: &mut Draw, word: &'static str) -> Call {
             let total = d.total();
             wholes = vec![d.successes(total), total];
         }
+        // Sums of two shares, a few of them odd: infinite where these are large enough.
+        "total" => {
+            let mut sum: Vec<f64> = (0..22).map(|_| d.sized(-60., 10.) + d.sized(-60., 10.)).collect();
+            for _ in 0..d.below(3) {
+                let place = d.below(22) as usize;
+                sum[place] = d.odd() + d.odd();
+            }
+            wholes = sum.into_iter().map(f64::to_bits).collect();
+        }
         "tail_bound" => {
             reals = [d.between(-60., 1.), d.sized(-10., 12.).abs(), d.eta(), d.variance().sqrt(), 0.];
             if d.below(8) == 0 {
@@ -399,7 +428,8 @@ fn main() {
         let c = match d.below(1000) {
             0 => objective(&mut d),
             1..11 => draw(&mut d, "row"),
-            11..261 => draw(&mut d, "normal"),
+            11..21 => draw(&mut d, "total"),
+            21..261 => draw(&mut d, "normal"),
             261..461 => draw(&mut d, "mills"),
             461..661 => draw(&mut d, "tail_bound"),
             _ => draw(&mut d, "conditional"),

@@ -2,30 +2,24 @@
 use mathlib.Core.Path.{_≡_, refl, ap}
 use mathlib.Core.Bool.{Bool, true, false, _&&_, cond}
 use mathlib.Core.List.{List}
-use Prim.Native.Nat.{ℕ, _≤_}
+use Prim.Native.Nat.{ℕ}
 use native.Mathlib.Omega.{arith}
 use lib.ListN.{getD}
-use Rattle.work.specs.declared.Ending.the-variants.{Answered, InvalidInput, Domain}
-use Rattle.work.specs.Ended.{invalid, isRefused, valueOr}
+use Rattle.work.specs.declared.Ending.the-variants.{Answered, InvalidInput}
+use Rattle.work.specs.Ended.{isRefused, valueOr}
 use Rattle.work.specs.Work.{Metered, metered}
 use Rattle.work.specs.Given.{Given, of-answer}
 use Rattle.work.specs.Refused.{told-refused}
-use Rattle.work.specs.Stops.{Stops, answers, refuses, chosen, passed, Reasoned, metered-domain}
-use Rattle.work.specs.Through.{refused-by}
 use Rattle.work.specs.Metered.{split, branch, gives-up}
 use Rattle.legendre.specs.Legendre.{legendreOf}
 use Rattle.posterior.specs.declared.integrand.Point.{Point}
 use Rattle.posterior.specs.Integrand.{Eval, at}
-use Rattle.objective.specs.Reasons.{objective-reasons}
-use Rattle.descent.specs.Refusals.{never-refuses}
 use Rattle.request.specs.declared.Request.{Request}
-use Rattle.request.specs.Request.{admits, validLimit, startOf}
+use Rattle.request.specs.Request.{admits, validLimit}
 use Rattle.request.specs.Checks.{requestChecks}
 use Rattle.request.specs.Checks as checks
-use Rattle.stepper.specs.Machine.{problemOf}
-use Rattle.drive.specs.Drive.{valueAt}
 use Rattle.fit.specs.declared.report.Fit.{Fit}
-use Rattle.fit.specs.Fit.{Report, planOf, fit, toFit, noReport, refusedOf, limitedFit, fitOf}
+use Rattle.fit.specs.Fit.{Report, fit, toFit, noReport, refusedOf, limitedFit, fitOf}
 
 -- a fit that is answered with a report that has P
 pub record Answers (P : Report → Type 0) (f : Fit) : Type 0 where
@@ -67,18 +61,3 @@ module _ (r : Request) (ls : List ℕ) where
   -- whichever check of document 01 it is
   pub any-fails : (i : ℕ) → getD (requestChecks r ls) i true ≡ false → fitOf r ls ≡ refusedOf InvalidInput 0
   any-fails i h = unfit-refused (checks.any-fails r ls i h)
-
-  -- A Domain's reason is 1 to 5.
-  fit-reasons : Stops Reasoned (fit legendreOf r ls)
-  unfolding fit
-  fit-reasons =
-      chosen (admits r ls)
-      (passed (refused-by (λ q. valueAt legendreOf ls (q .at)) (λ q. objective-reasons legendreOf (q .at) ls) (never-refuses (problemOf (planOf r)) (startOf r))) (λ d. answers))
-      (refuses {r = invalid} tt)
-
-  pub fit-domain : (reason : ℕ) → fitOf r ls .end ≡ Domain reason → (1 ≤ reason) × (reason ≤ 5)
-  unfolding fitOf limitedFit
-  fit-domain reason h =
-      split (validLimit (r .quadrature .0))
-      (λ t. let e = rw t at h in metered-domain at (r .quadrature .0) 0 reason fit-reasons e)
-      (λ t. let e = rw t at h in let z : _≡_ {A = ℕ} 0 1 = cc in absurd (omega arith))

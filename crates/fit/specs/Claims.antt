@@ -1,23 +1,23 @@
 -- Whether a fit may come out worse than its start: said of the record that the code returns and of its own list of trials.
-use mathlib.Core.Path.{_≡_, refl, ap, sym, _∙_}
-use mathlib.Core.Bool.{true, false}
+use mathlib.Core.Path.{_≡_, refl, ap, _∙_}
+use mathlib.Core.Bool.{true}
 use mathlib.Core.List.{List}
-use Prim.Native.Nat.{ℕ, zero, suc, _+_}
+use Prim.Native.Nat.{ℕ}
 use lib.Dec.{T}
-use lib.Ieee.{Float, binary64, le, isNan, fits}
-use lib.Ieee.Bits.{ofBits-fits}
-use lib.Ieee.Fits.{add-fits}
+use lib.Ieee.{Float, binary64, le, fits}
+use Rattle.num.specs.Helpers.{isFinite}
+use Rattle.order.specs.Numbers.{finite-number}
 use Rattle.work.specs.declared.Ending.the-variants.{Answered}
 use Rattle.work.specs.Ended.{Ended, done, valueOr}
 use Rattle.work.specs.Work.{run}
-use Rattle.work.specs.Given.{Always, holds, refuses, tested, passed, anything, of-run}
-use Rattle.legendre.specs.declared.Pair.{Pair}
+use Rattle.work.specs.Given.{of-run}
 use Rattle.legendre.specs.Legendre.{legendreOf}
 use Rattle.posterior.specs.Integrand.{at}
 use Rattle.value.specs.declared.Totals.{Totals}
 use Rattle.value.specs.Totals.{noTotals}
 use Rattle.objective.specs.Litters.{countOf}
-use Rattle.objective.specs.Objective.{shareAt, rows, admits, objective, objectiveOf}
+use Rattle.objective.specs.Objective.{objective, objectiveOf}
+use Rattle.objective.specs.Finite.{Known, objective-known}
 use Rattle.objective.specs.Bound.{objective-in-full}
 use Rattle.descent.specs.declared.Trial.{Trial}
 use Rattle.descent.specs.declared.Trial.the-variants.{ByRounding}
@@ -36,20 +36,6 @@ use Rattle.fit.specs.Driven.{descentOf, trialsOf, pointsOf, Ends, ends}
 abbrev pub startingOf : Request → List ℕ → Float
 startingOf r ls = objectiveOf (startOf r) ls .nll
 
--- ---- an objective's likelihood is a sum, so it fits its format
-module _ (rule : List Pair) (x : List Float) (ls : List ℕ) where
-  abbrev Fitting : Totals → Type 0
-  Fitting t = T (fits binary64 (t .nll))
-
-  rows-fit : (n i : ℕ) (t : Totals) → Fitting t → Always Fitting (rows rule x ls n i t)
-  unfolding rows
-  rows-fit zero i t f = holds f
-  rows-fit (suc n) i t f = passed {P = λ s. Unit {0}} (anything (λ s. tt) (shareAt rule x ls i)) (λ s u. rows-fit n (i + 1) _ (add-fits binary64 (t .nll) (s .nll)))
-
-  objective-fits : Always Fitting (objective rule x ls)
-  unfolding objective
-  objective-fits = tested (admits x ls) (λ t. rows-fit (countOf ls) 0 noTotals (ofBits-fits binary64 0)) (λ t. refuses)
-
 -- the bound of equal numbers and equal trials
 carried : {a b c d : Float} {ts us : List Trial} → a ≡ b → ts ≡ us → c ≡ d → le b (raisedBy us d) ≡ true → le a (raisedBy ts c) ≡ true
 carried {b = b} {c = c} {ts = ts} {us = us} e f g k = ap (λ y. le y (raisedBy ts c)) e ∙ (ap (λ ws. le b (raisedBy ws c)) f ∙ (ap (λ y. le b (raisedBy us y)) g ∙ k))
@@ -63,8 +49,11 @@ module _ (r : Request) (ls : List ℕ) where
   unfolding pointsOf
   visited-value x v m = point-value at (valueAt legendreOf ls) _ (place x v) m
 
+  visited-known : (x : List Float) (v : Totals) → Visited x v → Known v
+  visited-known x v m = of-run at (λ e. tt) v (objective-known legendreOf x ls) (visited-value x v m)
+
   visited-fits : (x : List Float) (v : Totals) → Visited x v → T (fits binary64 (v .nll))
-  visited-fits x v m = of-run at (λ e. tt) v (objective-fits legendreOf x ls) (visited-value x v m)
+  visited-fits x v m = visited-known x v m .value
 
   starting-is : (v : Totals) → Visited (startOf r) v → startingOf r ls ≡ v .nll
   starting-is v m = ap (λ o. o .nll) (objective-in-full (startOf r) ls) ∙ ap (λ (e : Ended Totals). valueOr noTotals e .nll) (visited-value (startOf r) v m)
@@ -92,15 +81,22 @@ module _ (r : Request) (ls : List ℕ) where
     start-is : startingOf r ls ≡ led .start .nll
     start-is = starting-is (led .start) (led .evaluated)
 
-    -- Every answered fit whose start is no NaN: the reported likelihood is at most the start's, raised by the allowance of each step by the rounding rule.
-    pub fit-at-most : isNan (startingOf r ls) ≡ false → le (fitOf r ls .nll) (raisedBy (trialsOf r ls) (startingOf r ls)) ≡ true
-    fit-at-most n =
+    start-known : Known (led .start)
+    start-known = visited-known (startOf r) (led .start) (led .evaluated)
+
+    -- the starting likelihood of an answered fit is finite
+    pub start-finite : isFinite (startingOf r ls) ≡ true
+    start-finite = ap (λ y. isFinite y) start-is ∙ start-known .finite .likelihood
+
+    -- The reported likelihood is at most the start's, raised by the allowance of each step by the rounding rule.
+    pub fit-at-most : le (fitOf r ls .nll) (raisedBy (trialsOf r ls) (startingOf r ls)) ≡ true
+    fit-at-most =
         carried nll-is trials-are start-is
-        (at-most-raised (problemOf (planOf r)) Visited (startOf r) (led .start) (led .evaluated) visited-fits (sym (ap (λ y. isNan y) start-is) ∙ n) (led .led))
+        (at-most-raised (problemOf (planOf r)) Visited (startOf r) (led .start) (led .evaluated) visited-fits (finite-number (led .start .nll) (start-known .finite .likelihood)) (led .led))
 
     -- Where no step was taken by the rounding rule, it is at most the start's.
-    pub fit-not-worse : isNan (startingOf r ls) ≡ false → roundingsOf (trialsOf r ls) ≡ 0 → le (fitOf r ls .nll) (startingOf r ls) ≡ true
-    fit-not-worse n z = let k = fit-at-most n in rw (unraised (trialsOf r ls) (startingOf r ls) z) at k
+    pub fit-not-worse : roundingsOf (trialsOf r ls) ≡ 0 → le (fitOf r ls .nll) (startingOf r ls) ≡ true
+    fit-not-worse z = let k = fit-at-most in rw (unraised (trialsOf r ls) (startingOf r ls) z) at k
 
     -- A step by the rounding rule, of allowance a, was between two evaluated points, and ends at no more than the f64 sum of the likelihood before it and a.
     pub fit-rounding-step : (a : Float) → Among (ByRounding a) (trialsOf r ls) → Rounded (problemOf (planOf r)) Visited a

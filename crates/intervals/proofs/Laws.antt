@@ -10,14 +10,14 @@ use lib.Dec.{eqb}
 use lib.ListN.{length, getD}
 use lib.Ieee.{Float, nan}
 use Rattle.num.specs.F64.{_⊕_, _⊖_, _⊗_, _⊘_}
-use Rattle.num.specs.Helpers.{isFinite}
 use Rattle.num.specs.Choose.{then, else, by-not-true}
 use Rattle.put.specs.Stored.{stored}
 use Rattle.num.specs.Left.{left-one, left-none}
 use Rattle.intervals.specs.declared.factor.Factor.{Factor}
 use Rattle.intervals.specs.declared.interval.Interval.{Interval}
 use Rattle.intervals.specs.declared.answer.Intervals.{Intervals}
-use Rattle.intervals.specs.Shape.{shapedOf, markedOf, finiteFrom, allFinite}
+use Rattle.finite.specs.Finite.{allFinite}
+use Rattle.intervals.specs.Shape.{shapedOf, markedOf}
 use Rattle.intervals.specs.Passed.{few, same-length, few-errors, by-rows}
 use Rattle.intervals.specs.Factor.{at, asymmetricOf, low, productsFrom, productsOf, faultOf, heldOf, keptOf, diagonalOf, entryOf, rowFrom, lineOf, factorFrom, factorOf}
 use Rattle.intervals.specs.Interval.{askedOf}
@@ -29,19 +29,6 @@ within n i j a b = omega (arith, mul-le-mul {n₁ = n} {m₁ = suc i} {n₂ = n}
 
 pub sixty-four : (n : ℕ) → n ≤ 8 → n * n ≤ 64
 sixty-four n h = mul-le-mul h h
-
-module _ (v : List Float) (whole : Bool) (n i : ℕ) (e : finiteFrom v (n - i) i ≡ whole) where
-  pub finite-stops : (t : Bool) → i < n → t ≡ isFinite (getD v i nan) → t ≡ false → false ≡ whole
-  unfolding finiteFrom
-  finite-stops t h u f = rw (left-one n i h, ← u, f) at e
-
-  pub finite-turn : (t : Bool) → i < n → t ≡ isFinite (getD v i nan) → t ≡ true → finiteFrom v (n - (i + 1)) (i + 1) ≡ whole
-  unfolding finiteFrom
-  finite-turn t h u f = rw (left-one n i h, ← u, f) at e
-
-  pub finite-done : n ≤ i → true ≡ whole
-  unfolding finiteFrom
-  finite-done h = rw (left-none n i h) at e
 
 module _ (lower : List Float) (i j k : ℕ) (sum whole : Float) (e : productsFrom lower i j (j - k) k sum ≡ whole) where
   pub products-turn : k < j → productsFrom lower i j (j - (k + 1)) (k + 1) (sum ⊕ low lower i k ⊗ low lower j k) ≡ whole

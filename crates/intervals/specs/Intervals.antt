@@ -9,7 +9,8 @@ use Rattle.num.specs.F64.{zero·}
 use Rattle.put.specs.Stored.{stored}
 use Rattle.intervals.specs.declared.interval.Interval.{Interval}
 use Rattle.intervals.specs.declared.answer.Intervals.{Intervals}
-use Rattle.intervals.specs.Shape.{shapedOf, markedOf, allFinite}
+use Rattle.finite.specs.Finite.{allFinite}
+use Rattle.intervals.specs.Shape.{shapedOf, markedOf}
 use Rattle.intervals.specs.Factor.{factorOf}
 use Rattle.intervals.specs.Interval.{answered, invalidInput, askedOf}
 

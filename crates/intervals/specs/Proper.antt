@@ -14,7 +14,8 @@ use Rattle.num.specs.F64.{zero·, _⊘_}
 use Rattle.num.specs.Helpers.{isFinite}
 use Rattle.intervals.specs.declared.interval.Interval.{Interval}
 use Rattle.intervals.specs.declared.answer.Intervals.{Intervals}
-use Rattle.intervals.specs.Shape.{shapedOf, markedOf, allFinite}
+use Rattle.finite.specs.Finite.{allFinite}
+use Rattle.intervals.specs.Shape.{shapedOf, markedOf}
 use Rattle.intervals.specs.Passed.{left, right, few}
 use Rattle.intervals.specs.Factor.{factorOf}
 use Rattle.intervals.specs.Interval.{noneOf, properOf, judgedOf, transformedOf, intervalOf, askedOf}

@@ -1,11 +1,7 @@
 -- The shape of what is asked, and the marks.
-use mathlib.Core.Bool.{Bool, true, _&&_}
-use mathlib.Core.List.{List}
-use Prim.Native.Nat.{ℕ, zero, suc, _+_, _*_, _/_, _%_, _^_}
+use mathlib.Core.Bool.{Bool, _&&_}
+use Prim.Native.Nat.{ℕ, _*_, _/_, _%_, _^_}
 use lib.Dec.{eqb, leb}
-use lib.ListN.{length, getD}
-use lib.Ieee.{Float, nan}
-use Rattle.num.specs.Helpers.{isFinite}
 
 -- one to eight estimates, at least one mark and none past the dimension, as many errors, covariance by rows
 unfoldable pub shapedOf : ℕ → ℕ → ℕ → ℕ → Bool
@@ -15,11 +11,3 @@ shapedOf estimates covariance errors marks =
 -- the i-th binary digit of the marks
 unfoldable pub markedOf : ℕ → ℕ → Bool
 markedOf marks i = eqb (marks / 2 ^ i % 2) 1
-
--- n numbers from the i-th on
-unfoldable pub finiteFrom : List Float → ℕ → ℕ → Bool
-finiteFrom v zero i = true
-finiteFrom v (suc n) i = isFinite (getD v i nan) && finiteFrom v n (i + 1)
-
-unfoldable pub allFinite : List Float → Bool
-allFinite v = finiteFrom v (length v) 0

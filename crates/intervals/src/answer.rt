@@ -59,7 +59,7 @@ pub fn positive_fixed_effect_intervals(
     if !crate::shape::shaped(estimates.len(), covariance.len(), errors.len(), marks) {
         return refusal(1);
     }
-    if !crate::shape::all_finite(covariance) {
+    if !finite::all_finite(covariance) {
         return refusal(1);
     }
     let f = crate::factor::factored(covariance, errors);

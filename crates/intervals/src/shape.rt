@@ -1,7 +1,7 @@
 // The shape of what is asked, and the marks: bit i marks estimate i as of positive domain.
 ghost use mathlib.Core.Path.{_≡_};
 ghost use Prim.Native.Nat.{_*_, _<_, _≤_};
-ghost use Rattle.intervals.specs.Shape.{shapedOf, markedOf, allFinite};
+ghost use Rattle.intervals.specs.Shape.{shapedOf, markedOf};
 
 fn square(n: usize) -> usize
     requires { ⌜ n ≤ 8 ⌝ }
@@ -34,15 +34,4 @@ pub fn marked(marks: u64, i: usize) -> bool
     ensures { λ r. ⌜ r ≡ markedOf marks i ⌝ }
 {
     (marks >> i) % 2 == 1
-}
-
-pub fn all_finite(v: &[f64]) -> bool
-    ensures { λ r. ⌜ (r ≡ allFinite (now (v .entry))) × (now (v .exit) ≡ now (v .entry)) ⌝ }
-{
-    for i in 0..v.len() {
-        if !num::is_finite(v[i]) {
-            return false;
-        }
-    }
-    true
 }

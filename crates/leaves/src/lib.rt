@@ -2,6 +2,7 @@
 // The status is 1 where a buffer is too short, and then nothing is written; else 0.
 use form::token::Token;
 use legendre::Pair;
+use value::Totals;
 use work::QuadratureEvaluations;
 ghost use mathlib.Core.Path.{_≡_};
 ghost use Rattle.tail.specs.Tail.{tailBoundOf};
@@ -161,6 +162,60 @@ pub extern "C" fn leaf_objective(
     let end = o.end;
     let v = buffers::objective_numbers(o);
     put::numbers(&v, out);
+    let c = [work::number(end), work::reason(end), o.used.0];
+    put::counts(&c, counts);
+    0
+}
+
+// A sum of all litters, of its twenty-two numbers in the places where `leaf_objective` puts them; zeros for fewer.
+fn sum_in(v: &[f64]) -> Totals
+    ensures { λ r. ⌜ now (v .exit) ≡ now (v .entry) ⌝ }
+{
+    if v.len() < 22 {
+        return value::nothing();
+    }
+    Totals {
+        nll: v[0],
+        gradient: [v[1], v[2], v[3], v[4]],
+        hessian: [
+            v[5],
+            v[6],
+            v[7],
+            v[8],
+            v[9],
+            v[10],
+            v[11],
+            v[12],
+            v[13],
+            v[14],
+            v[15],
+            v[16],
+            v[17],
+            v[18],
+            v[19],
+            v[20],
+        ],
+        refinement: v[21],
+    }
+}
+
+// What the objective makes of that sum.
+#[no_mangle]
+pub extern "C" fn leaf_total(v: &[f64], used: u64, out: &mut [f64], counts: &mut [u64]) -> u64
+    ensures { λ r. ⌜ (length (now (out .entry)) < 22 → r ≡ 1) × (length (now (counts .entry)) < 3 → r ≡ 1) ⌝ }
+    ensures { λ r. ⌜ (22 ≤ length (now (out .entry)) → 3 ≤ length (now (counts .entry)) → r ≡ 0) ⌝ }
+{
+    if counts.len() < 3 {
+        return 1;
+    }
+    if out.len() <= 21 {
+        return 1;
+    }
+    let t = sum_in(v);
+    let o = objective::sum::ended(used, t);
+    let end = o.end;
+    let n = buffers::objective_numbers(o);
+    put::numbers(&n, out);
     let c = [work::number(end), work::reason(end), o.used.0];
     put::counts(&c, counts);
     0

@@ -16,30 +16,30 @@ use Rattle.mode.specs.Bracket.{Ends, doubled, ends, checkEnds}
 use Rattle.mode.specs.Mode.{allowance, steps-tolerance, mode-tolerance, narrowedOf, startOf, passes, confirmed, peak}
 
 module _ (here : Float → Eval) where
-  doubled-reasons : (side : Side) (n : ℕ) (z : Float) → Stops Reasoned (doubled here side n z)
+  doubled-reasons : (side : Side) (n : ℕ) (z : Float) → Stops (Reasoned 5) (doubled here side n z)
   unfolding doubled _>>=_
   doubled-reasons side zero z = answers
   doubled-reasons side (suc n) z = hears (λ v. chosen (risesOf side (v .slope)) answers (doubled-reasons side n (z ⊗ two·)))
 
-  pub ends-reasons : Stops Reasoned (ends here)
+  pub ends-reasons : Stops (Reasoned 5) (ends here)
   unfolding ends
   ends-reasons = passed (doubled-reasons Left 16 (firstOf Left)) (λ lo. passed (doubled-reasons Right 16 (firstOf Right)) (λ hi. answers))
 
-  pub checkEnds-reasons : (e : Ends) → Stops Reasoned (checkEnds here e)
+  pub checkEnds-reasons : (e : Ends) → Stops (Reasoned 5) (checkEnds here e)
   unfolding checkEnds _>>=_
   checkEnds-reasons e =
       hears (λ v. chosen (flatOf Left (v .slope)) (refuses {r = domain 1} (lit≤ tt, lit≤ tt)) (hears (λ u. chosen (flatOf Right (u .slope)) (refuses {r = domain 1} (lit≤ tt, lit≤ tt)) answers)))
 
-  passes-reasons : (n : ℕ) (g : Guess) → Stops Reasoned (passes here n g)
+  passes-reasons : (n : ℕ) (g : Guess) → Stops (Reasoned 5) (passes here n g)
   unfolding passes _>>=_
   passes-reasons zero g = answers
   passes-reasons (suc n) g = hears (λ v. chosen (le (absOf (v .slope)) (allowance steps-tolerance (g .at))) answers (passes-reasons n (narrowedOf g (v .slope) (v .curvature))))
 
-  confirmed-reasons : (z : Float) → Stops Reasoned (confirmed here z)
+  confirmed-reasons : (z : Float) → Stops (Reasoned 5) (confirmed here z)
   unfolding confirmed _>>=_
   confirmed-reasons z =
       hears (λ v. chosen (lt (allowance mode-tolerance z) (absOf (v .slope))) (refuses {r = domain 2} (lit≤ tt, lit≤ tt)) (chosen (le (v .curvature) zero·) (refuses {r = domain 2} (lit≤ tt, lit≤ tt)) answers))
 
-  pub peak-reasons : (lo hi : Float) → Stops Reasoned (peak here lo hi)
+  pub peak-reasons : (lo hi : Float) → Stops (Reasoned 5) (peak here lo hi)
   unfolding peak
   peak-reasons lo hi = passed (passes-reasons 100 (startOf lo hi)) (λ z. confirmed-reasons z)

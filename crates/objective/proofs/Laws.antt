@@ -19,7 +19,7 @@ use Rattle.value.specs.declared.Totals.{Totals}
 use Rattle.objective.specs.declared.sum.Objective.{Objective}
 use Rattle.objective.specs.Litters.{groupAt, validLitters, validPoint}
 use Rattle.objective.specs.Totals.{indexOf, accumulatedOf}
-use Rattle.objective.specs.Objective.{shareAt, rows, rowAt, rowsFrom, summedOf, objective, limitedOf, refusalOf, answeredOf}
+use Rattle.objective.specs.Objective.{shareAt, rows, rowAt, rowsFrom, summedOf, objective, limitedOf, refusalOf, endedOf}
 
 row-within : (rule : List Pair) (x : List Float) (ls : List ℕ) (i limit : ℕ) → rowAt rule x ls i limit .used .0 ≤ limit
 unfolding rowOf
@@ -37,9 +37,9 @@ module _ (rule : List Pair) (x : List Float) (ls : List ℕ) (limit used : ℕ) 
   unfolding rowsFrom rows rowOf
   rows-step n i t = rw (past noShare, share at (shareAt rule x ls i) limit used)
 
-  rows-end : (i : ℕ) (t : Totals) → rowsFrom rule x ls limit used zero i t ≡ answeredOf used t
-  unfolding rowsFrom rows
-  rows-end i t = rw gives
+  rows-end : (i : ℕ) (t : Totals) → rowsFrom rule x ls limit used zero i t ≡ endedOf used t
+  unfolding rowsFrom rows endedOf
+  rows-end i t = rw (branch, gives, gives-up)
 
   module _ (all : Objective) (n i : ℕ) (t : Totals) (v : rowsFrom rule x ls limit used (n - i) i t ≡ all) where
     pub rows-stops : (r : Row) (o : Objective) → i < n → r ≡ rowAt rule x ls i (limit - used) → isRefused (r .end) ≡ true → o ≡ refusalOf (r .end) (record { 0 = used + r .used .0 }) → o ≡ all
@@ -48,7 +48,7 @@ module _ (rule : List Pair) (x : List Float) (ls : List ℕ) (limit used : ℕ) 
     pub rows-turn : (r : Row) (g : ℕ) (s : Totals) → i < n → r ≡ rowAt rule x ls i (limit - used) → isRefused (r .end) ≡ false → g ≡ indexOf (groupAt ls i) → s ≡ accumulatedOf t g (r .nll) (r .gradient) (r .hessian) (r .refinement) → rowsFrom rule x ls limit (used + r .used .0) (n - (i + 1)) (i + 1) s ≡ all
     rows-turn r g s h e f k u = rw (u, k) (rw (left-one n i h, rows-step, ← e, f) at v)
 
-    pub rows-done : (o : Objective) → n ≤ i → o ≡ answeredOf used t → o ≡ all
+    pub rows-done : (o : Objective) → n ≤ i → o ≡ endedOf used t → o ≡ all
     rows-done o h u = u ∙ (rw (left-none n i h, rows-end) at v)
 
 module _ (rule : List Pair) (x : List Float) (ls : List ℕ) (limit : QuadratureEvaluations) (o : Objective) where

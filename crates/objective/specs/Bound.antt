@@ -10,9 +10,10 @@ use borrow.Author.Tests.{leb-true}
 use lib.Dec.{leb, eqb, lit≤}
 use lib.ListN.{length}
 use lib.Ieee.{Float}
+use Rattle.finite.specs.Finite.{and-first, and-second}
 use Rattle.work.specs.declared.QuadratureEvaluations.{QuadratureEvaluations}
 use Rattle.work.specs.Work.{run, listed, listedL, told}
-use Rattle.work.specs.AtMost.{AtMost, rets, stops, both, more, at-most-listed}
+use Rattle.work.specs.AtMost.{AtMost, rets, stops, either, both, more, at-most-listed}
 use Rattle.work.specs.Metered.{metered-is, within, split}
 use Rattle.work.specs.Share.{in-full, cap}
 use Rattle.legendre.specs.declared.Pair.{Pair}
@@ -22,20 +23,13 @@ use Rattle.row.specs.Bound.{share-at-most}
 use Rattle.value.specs.declared.Totals.{Totals}
 use Rattle.objective.specs.Litters.{countOf, validLitters, validPoint}
 use Rattle.value.specs.Totals.{noTotals}
+use Rattle.objective.specs.Totals.{finiteTotals}
 use Rattle.objective.specs.Objective.{rows, admits, objective, toObjective, limitedOf, objectiveOf}
-
-and-first : (a b : Bool) → (a && b) ≡ true → a ≡ true
-and-first true b h = refl
-and-first false b h = h
-
-and-second : (a b : Bool) → (a && b) ≡ true → b ≡ true
-and-second true b h = h
-and-second false b h = cc
 
 module _ (rule : List Pair) (x : List Float) (ls : List ℕ) where
   pub rows-at-most : (n i : ℕ) (t : Totals) → AtMost (n * 32933) (rows rule x ls n i t)
   unfolding rows
-  rows-at-most zero i t = rets
+  rows-at-most zero i t = either (finiteTotals t) rets stops
   rows-at-most (suc n) i t = rw (suc-mul n 32933, add-comm (n * 32933) 32933) (both (n * 32933) (share-at-most _ _ _ rule _ _) (λ s. rows-at-most n (i + 1) _))
 
   -- at most 128 litters where the litters are valid

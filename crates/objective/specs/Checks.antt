@@ -8,6 +8,7 @@ use lib.ListN.{length, getD}
 use lib.Ieee.{Float, nan, le}
 use Rattle.num.specs.F64.{zero·, eight·}
 use Rattle.num.specs.Helpers.{absOf, isFinite}
+use Rattle.finite.specs.Finite.{and-first, and-second}
 use Rattle.work.specs.declared.Ending.the-variants.{InvalidInput}
 use Rattle.objective.specs.Litters.{countOf, successesAt, totalAt, groupAt, validLitter, validFrom, validLitters, nine·, validMean, validVariance, validPoint}
 use Rattle.objective.specs.Objective.{refusalOf, objectiveOf}
@@ -43,6 +44,11 @@ pub one-fails : (bs : List Bool) (i : ℕ) → getD bs i true ≡ false → all 
 one-fails [] i h = h
 one-fails (b ∷ bs) zero h = rw h
 one-fails (b ∷ bs) (suc i) h = rw (one-fails bs i h) (and-false b)
+
+pub each-passes : (bs : List Bool) (i : ℕ) → all bs ≡ true → getD bs i true ≡ true
+each-passes [] i h = refl
+each-passes (b ∷ bs) zero h = and-first b (all bs) h
+each-passes (b ∷ bs) (suc i) h = each-passes bs i (and-second b (all bs) h)
 
 -- ---- the checks
 

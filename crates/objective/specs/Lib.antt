@@ -4,5 +4,6 @@ pub mod Objective
 pub mod Bound
 pub mod Refused
 pub mod Reasons
+pub mod Finite
 pub mod Checks
 pub mod Coordinates

@@ -5,9 +5,9 @@ use Prim.Native.Nat.{ℕ, zero, suc, _+_}
 use lib.ListN.{getD}
 use lib.Ieee.{Float, nan}
 use Rattle.work.specs.declared.Ending.{Ending}
-use Rattle.work.specs.declared.Ending.the-variants.{Answered}
+use Rattle.work.specs.declared.Ending.the-variants.{Answered, Domain}
 use Rattle.work.specs.declared.QuadratureEvaluations.{QuadratureEvaluations}
-use Rattle.work.specs.Ended.{invalid}
+use Rattle.work.specs.Ended.{invalid, domain}
 use Rattle.work.specs.Work.{Work, ret, stop, _>>=_, metered, told}
 use Rattle.legendre.specs.declared.Pair.{Pair}
 use Rattle.legendre.specs.Legendre.{legendreOf}
@@ -19,15 +19,15 @@ use Rattle.value.specs.declared.Totals.{Totals}
 use Rattle.value.specs.Totals.{noTotals}
 use Rattle.objective.specs.declared.sum.Objective.{Objective}
 use Rattle.objective.specs.Litters.{countOf, successesAt, totalAt, groupAt, validLitters, validPoint}
-use Rattle.objective.specs.Totals.{indexOf, withShare}
+use Rattle.objective.specs.Totals.{indexOf, finiteTotals, withShare}
 
 -- the i-th litter's share, at its group's mean and variance
 abbrev pub shareAt : List Pair → List Float → List ℕ → ℕ → Work Eval Point Share
 shareAt rule x ls i = let g = indexOf (groupAt ls i) in share i (successesAt ls i) (totalAt ls i) rule (getD x g nan) (getD x (g + 2) nan)
 
--- n litters from the i-th on, in their order
+-- n litters from the i-th on, in their order; reason 6: their sum is not finite
 unfoldable pub rows : List Pair → List Float → List ℕ → ℕ → ℕ → Totals → Work Eval Point Totals
-rows rule x ls zero i t = ret t
+rows rule x ls zero i t = cond (finiteTotals t) (ret t) (stop (domain 6))
 rows rule x ls (suc n) i t = do
   s ← shareAt rule x ls i
   rows rule x ls n (i + 1) (withShare t (indexOf (groupAt ls i)) s)
@@ -50,6 +50,10 @@ refusalOf e n = toObjective e (n .0) noTotals
 
 abbrev pub answeredOf : ℕ → Totals → Objective
 answeredOf n t = toObjective Answered n t
+
+-- after the last litter
+unfoldable pub endedOf : ℕ → Totals → Objective
+endedOf n t = cond (finiteTotals t) (answeredOf n t) (refusalOf (Domain 6) (record { 0 = n }))
 
 -- the i-th litter under a limit of its own
 abbrev pub rowAt : List Pair → List Float → List ℕ → ℕ → ℕ → Row

@@ -1,12 +1,13 @@
 -- The sums of the litters' shares: gradient by coordinate, Hessian by rows of the four coordinates.
-use mathlib.Core.Bool.{cond}
+use mathlib.Core.Bool.{Bool, cond, _&&_}
 use mathlib.Core.List.{List}
 use Prim.Native.Nat.{ℕ, _+_, _*_}
 use lib.Dec.{ltb}
 use lib.ListN.{getD, set}
 use lib.Ieee.{Float, nan}
 use Rattle.num.specs.F64.{_⊕_}
-use Rattle.num.specs.Helpers.{maxOf}
+use Rattle.num.specs.Helpers.{isFinite, maxOf}
+use Rattle.finite.specs.Finite.{allFinite}
 use Rattle.row.specs.Share.{Share}
 use Rattle.value.specs.declared.Totals.{Totals}
 
@@ -30,6 +31,10 @@ accumulatedOf t i nll gradient hessian refinement =
       hessian = summedHessian (t .hessian) i hessian;
       refinement = maxOf (t .refinement) refinement;
     }
+
+-- the likelihood, and every entry of the gradient and of the Hessian
+unfoldable pub finiteTotals : Totals → Bool
+finiteTotals t = isFinite (t .nll) && (allFinite (t .gradient) && allFinite (t .hessian))
 
 abbrev pub withShare : Totals → ℕ → Share → Totals
 withShare t i s = accumulatedOf t i (s .nll) (s .gradient) (s .hessian) (s .refinement)

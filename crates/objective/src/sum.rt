@@ -7,7 +7,7 @@ use work::QuadratureEvaluations;
 ghost use mathlib.Core.Path.{_≡_};
 ghost use Prim.Native.Nat.{_+_, _*_, _<_};
 ghost use lib.ListN.{length};
-ghost use Rattle.objective.specs.Objective.{refusalOf, answeredOf, rowAt, summedOf, limitedOf, objectiveOf};
+ghost use Rattle.objective.specs.Objective.{refusalOf, answeredOf, endedOf, rowAt, summedOf, limitedOf, objectiveOf};
 
 // The coordinates are two means, then two variances. The Hessian stands by rows.
 pub struct Objective {
@@ -45,6 +45,16 @@ fn answered(used: u64, t: Totals) -> Objective
         hessian,
         refinement: t.refinement,
     }
+}
+
+// What the sum of all litters comes to.
+pub fn ended(used: u64, t: Totals) -> Objective
+    ensures { λ r. ⌜ r ≡ endedOf used t ⌝ }
+{
+    if crate::totals::finite(t) {
+        return answered(used, t);
+    }
+    refusal(Ending::Domain(6), QuadratureEvaluations(used))
 }
 
 fn litter(i: usize, rule: [Pair; 16], x: [f64; 4], litters: &[u32], limit: u64) -> Row
@@ -88,7 +98,7 @@ fn summed(rule: [Pair; 16], x: [f64; 4], litters: &[u32], limit: u64) -> Objecti
         let s = crate::totals::accumulated(t, g, r);
         t = s;
     }
-    answered(used, t)
+    ended(used, t)
 }
 
 // The rule is computed once and passed on: the source computes it at each call, to the same bits.

@@ -3,7 +3,7 @@ use row::Row;
 use value::Totals;
 ghost use mathlib.Core.Path.{_≡_};
 ghost use Prim.Native.Nat.{_<_};
-ghost use Rattle.objective.specs.Totals.{indexOf, accumulatedOf};
+ghost use Rattle.objective.specs.Totals.{indexOf, accumulatedOf, finiteTotals};
 
 pub fn index(group: u32) -> usize
     ensures { λ r. ⌜ (r ≡ indexOf group) × (r < 2) ⌝ }
@@ -30,4 +30,15 @@ pub fn accumulated(t: Totals, i: usize, r: Row) -> Totals
     o.hessian[d] = o.hessian[d] + r.hessian[3];
     o.refinement = num::max(o.refinement, r.refinement);
     o
+}
+
+pub fn finite(t: Totals) -> bool
+    ensures { λ r. ⌜ r ≡ finiteTotals t ⌝ }
+{
+    let gradient = t.gradient;
+    let hessian = t.hessian;
+    let nll = num::is_finite(t.nll);
+    let slopes = finite::all_finite(&gradient);
+    let curvatures = finite::all_finite(&hessian);
+    num::both(nll, num::both(slopes, curvatures))
 }

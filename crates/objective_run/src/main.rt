@@ -13,4 +13,5 @@ fn main() {
     crate::reasons::modes();
     crate::reasons::tails();
     crate::reasons::sums();
+    crate::reasons::totals();
 }

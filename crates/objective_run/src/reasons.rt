@@ -1,4 +1,5 @@
 // Each reason of a Domain.
+use panel::Hump;
 use posterior::integrand::Posterior;
 use tail::Hill;
 use tail::Range;
@@ -26,8 +27,17 @@ pub fn modes() {
 }
 
 pub fn sums() {
-    // No test refuses a NaN before the sums are looked at.
-    row(b"4: mean NaN", 1, 2, num::not_a_number(), 1.0);
+    // The sums are scaled by the logarithm at the mode.
+    let rule = legendre::legendre();
+    let h = Hump {
+        left: -1.0,
+        mode: 0.0,
+        right: 1.0,
+        log: num::not_a_number(),
+    };
+    let i = quadrature::integrated(usual(), rule, h);
+    let end = i.end;
+    crate::say::ended(b"4: log NaN", end, i.p.evaluations.0);
     // A valid request: rounding moves the sums of so large a litter by more than two rules may differ.
     crate::refusals::at(
         b"5: 500 of 1000, variance 9",
@@ -70,4 +80,13 @@ pub fn tails() {
         b"3: curvature 1e60",
         row::peak::limits(usual(), 0.0, -2.0, 1e60),
     );
+    // A bound that is no number is none.
+    row(b"3: mean NaN", 1, 2, num::not_a_number(), 1.0);
+}
+
+pub fn totals() {
+    let mut t = value::nothing();
+    t.nll = num::infinity();
+    let o = objective::sum::ended(7, t);
+    crate::say::objective(b"6: an infinite sum of all litters", o);
 }

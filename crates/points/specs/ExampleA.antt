@@ -8,6 +8,7 @@ use lib.ListN.{replicate}
 use lib.Ieee.{Float, add, sub, mul, div, neg, lt, le, eq, ne, ofBits, ofInt, toBits}
 use Rattle.num.specs.F64.{bits}
 use Rattle.num.specs.Helpers.{absOf, isFinite, maxOf, minOf, clampOf, powiFrom, powiOf}
+use Rattle.finite.specs.Finite.{finiteFrom, allFinite}
 use Rattle.root.specs.Steps.{sqrtOf}
 use Rattle.tables.specs.Exp.{expRow, expRows}
 use Rattle.tables.specs.Log.{logRow, logRows}
@@ -25,6 +26,7 @@ use Rattle.posterior.specs.Integrand as integrand
 use Rattle.coefficient.specs.Coefficient.{coefficientOf}
 use Rattle.row.specs.Share.{share}
 use Rattle.objective.specs.Litters as litters
+use Rattle.objective.specs.Totals.{finiteTotals}
 use Rattle.objective.specs.Objective.{rows, objective}
 use Rattle.descent.specs.declared.Status.the-variants.{Converged}
 use Rattle.work.specs.Through.{through}
@@ -80,5 +82,5 @@ answer-a =
 -- four evaluations are enough; three give WorkBudget with count 3; no iterations are InvalidInput
 pub example-a-is :
     (fitOf (example-a 10 4) four-litters ≡ answer-a) × (fitOf (example-a 10 3) four-litters ≡ refusedOf WorkBudget 3) × (fitOf (example-a 0 4) four-litters ≡ refusedOf InvalidInput 0)
-unfolding fitOf limitedFit fit sdsOf activeOf projectOf normOf admits twoEach ofGroup validControls validSds validMeans validSd validMean through descend objective rows litters.validPoint litters.validVariance litters.validMean litters.validLitters litters.validFrom litters.validLitter share coefficientOf logFactorialOf integrand.aloneOf integrand.atOf integrand.integrandOf conditionalOf combinedOf normalOf normalCentre _>>=_ metered lgammaOf lgammaByProduct lgammaBelowOne productOf productFrom erfcOf erfcPos erfcTail erfcRow erfcRows logOf logParts logSmall logRow logRows expOf expLow expBelow expAbove expFinish expFar expRow expRows sqrtOf absOf isFinite maxOf minOf clampOf powiOf powiFrom leadingZeros toBits add sub mul div neg lt le eq ne ofBits ofInt
+unfolding fitOf limitedFit fit sdsOf activeOf projectOf normOf admits twoEach ofGroup validControls validSds validMeans validSd validMean through descend objective rows finiteTotals allFinite finiteFrom litters.validPoint litters.validVariance litters.validMean litters.validLitters litters.validFrom litters.validLitter share coefficientOf logFactorialOf integrand.aloneOf integrand.atOf integrand.integrandOf conditionalOf combinedOf normalOf normalCentre _>>=_ metered lgammaOf lgammaByProduct lgammaBelowOne productOf productFrom erfcOf erfcPos erfcTail erfcRow erfcRows logOf logParts logSmall logRow logRows expOf expLow expBelow expAbove expFinish expFar expRow expRows sqrtOf absOf isFinite maxOf minOf clampOf powiOf powiFrom leadingZeros toBits add sub mul div neg lt le eq ne ofBits ofInt
 example-a-is = (refl, refl, refl)

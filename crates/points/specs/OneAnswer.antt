@@ -6,6 +6,7 @@ use Prim.Native.Nat.{ℕ, _-_, _^_}
 use lib.Ieee.{Float, nan, binary64, round}
 use Rattle.num.specs.F64.{infinity·}
 use Rattle.num.specs.Helpers.{absOf, isFinite, maxOf, minOf, clampOf, powiOf, sumOf}
+use Rattle.finite.specs.Finite.{allFinite}
 use Rattle.root.specs.Steps.{sqrtOf}
 use Rattle.tables.specs.Exp.{expRow}
 use Rattle.tables.specs.Log.{logRow}
@@ -36,8 +37,8 @@ use Rattle.panel.specs.Panel.{sidesOf}
 use Rattle.quadrature.specs.Quadrature.{integralOf}
 use Rattle.row.specs.Share.{rowOf}
 use Rattle.objective.specs.Litters.{validLitters, validPoint}
-use Rattle.objective.specs.Totals.{indexOf, accumulatedOf}
-use Rattle.objective.specs.Objective.{limitedOf, objectiveOf}
+use Rattle.objective.specs.Totals.{indexOf, accumulatedOf, finiteTotals}
+use Rattle.objective.specs.Objective.{endedOf, limitedOf, objectiveOf}
 use Rattle.descent.specs.Status as status
 use Rattle.summary.specs.Summary.{extremeOf, noCounts, plusOf, litterCountsOf, countsOf, summaryOf}
 use Rattle.request.specs.declared.Request.{Request}
@@ -98,8 +99,8 @@ one5 f = record { one = λ a. one4 (f a) }
 pub one6 : {A B C D E F R : Type 0} (f : A → B → C → D → E → F → R) → One6 f
 one6 f = record { one = λ a. one5 (f a) }
 
-pub of-num : One1 absOf × One1 isFinite × One2 maxOf × One2 minOf × One3 clampOf × One2 powiOf × One1 sumOf × One2 _&&_ × One0 infinity· × One0 nan
-of-num = (one1 _, one1 _, one2 _, one2 _, one3 _, one2 _, one1 _, one2 _, one0 _, one0 _)
+pub of-num : One1 absOf × One1 isFinite × One1 allFinite × One2 maxOf × One2 minOf × One3 clampOf × One2 powiOf × One1 sumOf × One2 _&&_ × One0 infinity· × One0 nan
+of-num = (one1 _, one1 _, one1 _, one2 _, one2 _, one3 _, one2 _, one1 _, one2 _, one0 _, one0 _)
 
 -- the root's statement by squares has a theorem of its own, `one-root`
 pub of-elementary : One1 sqrtOf × One1 expRow × One1 logRow × One1 erfcRow × One1 expOf × One2 expLow × One1 logOf × One2 logParts × One1 erfcOf × One1 erfcPos × One1 lgammaOf × One1 cosOf × One2 hypotOf × One1 logFactorialOf
@@ -129,8 +130,8 @@ of-lent = (one2 _, one2 _)
 pub of-row : One2 coefficientOf × One1 locatedOf × One4 limitsOf × One4 sidesOf × One3 integralOf × ((litter : ℕ) → One6 (rowOf litter))
 of-row = (one2 _, one1 _, one4 _, one4 _, one3 _, λ litter. one6 (rowOf litter))
 
-pub of-objective : One1 validLitters × One1 validPoint × One1 indexOf × One6 accumulatedOf × One4 limitedOf × One2 objectiveOf
-of-objective = (one1 _, one1 _, one1 _, one6 _, one4 _, one2 _)
+pub of-objective : One1 validLitters × One1 validPoint × One1 indexOf × One6 accumulatedOf × One1 finiteTotals × One2 endedOf × One4 limitedOf × One2 objectiveOf
+of-objective = (one1 _, one1 _, one1 _, one6 _, one1 _, one2 _, one4 _, one2 _)
 
 pub of-summary : One2 extremeOf × One0 noCounts × One2 plusOf × One4 litterCountsOf × One2 countsOf × One1 summaryOf
 of-summary = (one2 _, one0 _, one2 _, one4 _, one2 _, one1 _)

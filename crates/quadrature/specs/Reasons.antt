@@ -13,9 +13,9 @@ use Rattle.panel.specs.Reasons.{sides-reasons}
 use Rattle.quadrature.specs.Quadrature.{spoiledOf, refinementOf, accepted, rules}
 
 module _ (here : Float → Eval) (rule : List Pair) where
-  pub rules-reasons : (h : Hump) (n k : ℕ) (seen : Bool) (old : List Float) → Stops Reasoned (rules here rule h n k seen old)
+  pub rules-reasons : (h : Hump) (n k : ℕ) (seen : Bool) (old : List Float) → Stops (Reasoned 5) (rules here rule h n k seen old)
   unfolding rules
   rules-reasons h zero k seen old = refuses {r = domain 5} (lit≤ tt, lit≤ tt)
   rules-reasons h (suc n) k seen old =
-      passed (sides-reasons Reasoned here rule h (2 ^ k))
+      passed (sides-reasons (Reasoned 5) here rule h (2 ^ k))
       (λ s. chosen (spoiledOf s) (refuses {r = domain 4} (lit≤ tt, lit≤ tt)) (chosen (seen && le (refinementOf s old) accepted) answers (rules-reasons h n (k + 1) true s)))

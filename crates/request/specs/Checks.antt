@@ -18,10 +18,10 @@ use Rattle.request.specs.Request.{validMean, validSd, validMeans, validS
 abbrev boxChecks : Float → Float → Float → List Bool
 boxChecks low high start = isFinite low ∷ isFinite high ∷ isFinite start ∷ lt low high ∷ le low start ∷ le start high ∷ []
 
-abbrev meanChecks : Float → Float → Float → List Bool
+abbrev pub meanChecks : Float → Float → Float → List Bool
 meanChecks low high start = boxChecks low high start ++ (le (neg eight·) low ∷ le high eight· ∷ [])
 
-abbrev sdChecks : Float → Float → Float → List Bool
+abbrev pub sdChecks : Float → Float → Float → List Bool
 sdChecks low high start = boxChecks low high start ++ (le zero· low ∷ le high three· ∷ lt (low ⊗ low) (high ⊗ high) ∷ [])
 
 abbrev ofBoth : (Float → Float → Float → List Bool) → Bounds → List Bool
@@ -42,11 +42,11 @@ requestChecks r ls = limitChecks r ++ (ofBoth meanChecks (r .mean) ++ (ofBoth sd
 
 -- ---- they are what is tested
 
-mean-all : (low high start : Float) → validMean low high start ≡ all (meanChecks low high start)
+pub mean-all : (low high start : Float) → validMean low high start ≡ all (meanChecks low high start)
 unfolding validMean
 mean-all low high start = simp (and-assoc, and-true)
 
-sd-all : (low high start : Float) → validSd low high start ≡ all (sdChecks low high start)
+pub sd-all : (low high start : Float) → validSd low high start ≡ all (sdChecks low high start)
 unfolding validSd
 sd-all low high start = simp (and-assoc, and-true)
 

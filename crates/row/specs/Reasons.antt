@@ -20,21 +20,21 @@ use Rattle.row.specs.Peak.{peaked, spanned}
 use Rattle.row.specs.Share.{spread, share, noShare, toRow, refusalOf, rowOf}
 
 module _ (here : Float → Eval) where
-  peaked-reasons : Stops Reasoned (peaked here)
+  peaked-reasons : Stops (Reasoned 5) (peaked here)
   unfolding peaked
   peaked-reasons = passed (ends-reasons here) (λ e. passed (checkEnds-reasons here e) (λ c. peak-reasons here (c .lo) (c .hi)))
 
-  spanned-reasons : (total : ℕ) (mean sd mode log delta : Float) → Stops Reasoned (spanned here total mean sd mode log delta)
+  spanned-reasons : (total : ℕ) (mean sd mode log delta : Float) → Stops (Reasoned 5) (spanned here total mean sd mode log delta)
   unfolding spanned
   spanned-reasons total mean sd mode log delta = passed (goal-reasons here mode log delta) (λ g. span-reasons here _)
 
-  spread-reasons : (rule : List Pair) (total : ℕ) (mean sd choose : Float) → Stops Reasoned (spread here rule total mean sd choose)
+  spread-reasons : (rule : List Pair) (total : ℕ) (mean sd choose : Float) → Stops (Reasoned 5) (spread here rule total mean sd choose)
   unfolding spread
   spread-reasons rule total mean sd choose =
       passed peaked-reasons (λ m. passed (spanned-reasons total mean sd (m .at) (m .log) _) (λ s. passed (rules-reasons here rule _ 10 0 _ _) (λ i. answers)))
 
 module _ (litter successes total : ℕ) (rule : List Pair) (mean variance : Float) where
-  pub share-reasons : Stops Reasoned (share litter successes total rule mean variance)
+  pub share-reasons : Stops (Reasoned 5) (share litter successes total rule mean variance)
   unfolding share _>>=_
   share-reasons = chosen (eq variance zero·) (hears (λ v. answers)) (spread-reasons _ rule total mean _ _)
 

@@ -23,7 +23,7 @@ use Rattle.tail.specs.declared.Tail.{Tail}
 use Rattle.tail.specs.declared.Range.{Range}
 use Rattle.posterior.specs.Side.{risesOf, steepOf, outwardOf}
 use Rattle.posterior.specs.Integrand.{atOf, noPoint}
-use Rattle.tail.specs.Tail.{tailBoundOf, withinOf, aboveOf, unboundedOf, boundAfter, walk, tailFrom, tailOf, span, rangeOf, goal, goalOf, tail-share, noReach}
+use Rattle.tail.specs.Tail.{tailBoundOf, withinOf, closedOf, bothClosed, boundAfter, walk, tailFrom, tailOf, span, rangeOf, goal, goalOf, tail-share, noReach}
 
 -- the bound after an evaluation: a new one where the density rises toward the mode, else the one before
 module _ (h : Hill) (side : Side) (b : TailBound) (z log slope : Float) (t : Bool) (e : t ≡ risesOf side slope) where
@@ -64,13 +64,14 @@ module _ (whole : Tail) (q : Posterior) (h : Hill) (side : Side) (n j : ℕ) (z 
   pub tail-done : n ≤ j → record { end = Answered; p = q; z = z; bound = b } ≡ whole
   tail-done l = rw (left-none n j l, tail-end) at i
 
-pub unbounded-left : (l r : TailBound) (goal : Float) (t : Bool) → t ≡ aboveOf l goal → t ≡ true → true ≡ unboundedOf l r goal
-unfolding unboundedOf
-unbounded-left l r goal t e u = rw (← e, u)
+module _ (l r : TailBound) (goal : Float) (t : Bool) (e : t ≡ closedOf l goal) where
+  pub left-closed : (u : Bool) → t ≡ true → u ≡ closedOf r goal → u ≡ bothClosed l r goal
+  unfolding bothClosed
+  left-closed u f g = rw (← e, f) g
 
-pub unbounded-right : (l r : TailBound) (goal : Float) (t u : Bool) → t ≡ aboveOf l goal → t ≡ false → u ≡ aboveOf r goal → u ≡ unboundedOf l r goal
-unfolding unboundedOf
-unbounded-right l r goal t u e f g = rw (← e, f) g
+  pub left-not-closed : t ≡ false → false ≡ bothClosed l r goal
+  unfolding bothClosed
+  left-not-closed f = rw (← e, f)
 
 -- both sides
 abbrev refusal : Ending → Posterior → Range
@@ -79,11 +80,11 @@ refusal e q = record { end = e; p = q; left = zero·; right = zero· }
 abbrev pub afterRight : Hill → Tail → Tail → Range
 afterRight h l r =
     cond (isRefused (r .end)) (refusal (r .end) (r .p))
-    (cond (unboundedOf (l .bound) (r .bound) (h .goal)) (refusal (Domain 3) (r .p)) (record { end = Answered; p = r .p; left = l .z; right = r .z }))
+    (cond (bothClosed (l .bound) (r .bound) (h .goal)) (record { end = Answered; p = r .p; left = l .z; right = r .z }) (refusal (Domain 3) (r .p)))
 
 range-is : (p : Posterior) (h : Hill) → rangeOf p h ≡ (let l = tailOf p h Left in cond (isRefused (l .end)) (refusal (l .end) (l .p)) (afterRight h l (tailOf (l .p) h Right)))
 unfolding rangeOf span tailOf tailFrom
-range-is p h = rw (past noReach, past noReach, branch, gives-up, gives)
+range-is p h = rw (past noReach, past noReach, branch, gives, gives-up)
 
 module _ (p : Posterior) (h : Hill) (l : Tail) (e : l ≡ tailOf p h Left) where
   pub range-stops : isRefused (l .end) ≡ true → refusal (l .end) (l .p) ≡ rangeOf p h

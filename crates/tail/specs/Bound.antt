@@ -8,7 +8,7 @@ use Rattle.posterior.specs.declared.side.Side.the-variants.{Left, Right}
 use Rattle.posterior.specs.Integrand.{Eval}
 use Rattle.tail.specs.declared.TailBound.{TailBound}
 use Rattle.tail.specs.declared.Hill.{Hill}
-use Rattle.tail.specs.Tail.{withinOf, unboundedOf, boundAfter, stepOut, walk, span, goal}
+use Rattle.tail.specs.Tail.{withinOf, bothClosed, boundAfter, stepOut, walk, span, goal}
 
 module _ (here : Float → Eval) where
   -- the tails' goal: at most 2
@@ -26,4 +26,4 @@ module _ (here : Float → Eval) where
   -- both tails: at most 60
   pub span-at-most : (h : Hill) → AtMost 60 (span here h)
   unfolding span
-  span-at-most h = both 30 (walk-at-most h Left 30 0 _ _) (λ l. both 0 (walk-at-most h Right 30 0 _ _) (λ r. either (unboundedOf (l .bound) (r .bound) (h .goal)) stops rets))
+  span-at-most h = both 30 (walk-at-most h Left 30 0 _ _) (λ l. both 0 (walk-at-most h Right 30 0 _ _) (λ r. either (bothClosed (l .bound) (r .bound) (h .goal)) rets stops))

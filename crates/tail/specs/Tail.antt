@@ -1,10 +1,10 @@
 -- The tails: how much mass beyond a point there can be, and steps outward until that is within a goal.
-use mathlib.Core.Bool.{Bool, _||_, cond}
+use mathlib.Core.Bool.{Bool, false, _&&_, cond}
 use mathlib.Core.List.{[], _∷_}
 use Prim.Native.Nat.{ℕ, zero, suc, _+_}
-use lib.Ieee.{Float, lt, le}
+use lib.Ieee.{Float, le}
 use Rattle.num.specs.F64.{_⊕_, _⊖_, _⊗_, _⊘_, whole, bits, zero·, one·, two·, four·, infinity·}
-use Rattle.num.specs.Helpers.{absOf, minOf, powiOf, sumOf}
+use Rattle.num.specs.Helpers.{absOf, isFinite, minOf, powiOf, sumOf}
 use Rattle.elementary.specs.Exp.{expOf}
 use Rattle.work.specs.declared.Ending.{Ending}
 use Rattle.work.specs.Ended.{domain}
@@ -42,17 +42,18 @@ tailBoundOf log-relative slope eta sd total =
     let polynomial = sumOf (termOf one· u 4 sd 0 slope 1 ∷ termOf four· u 3 sd 1 slope 2 ∷ termOf twelve u 2 sd 2 slope 3 ∷ termOf twenty-four u 1 sd 3 slope 4 ∷ termOf twenty-four u 0 sd 4 slope 5 ∷ []) in
     expOf log-relative ⊗ eighty-six ⊗ powiOf (whole total) 4 ⊗ polynomial
 
--- an open side compares as infinity does; a bound that is a NaN is neither within its goal nor above it
+-- what ends a walk: an open side compares as infinity does, and a bound that is a NaN is not within its goal
 abbrev pub withinOf : TailBound → Float → Bool
 withinOf Open goal = le infinity· goal
 withinOf (At b) goal = le b goal
 
-abbrev pub aboveOf : TailBound → Float → Bool
-aboveOf Open goal = lt goal infinity·
-aboveOf (At b) goal = lt goal b
+-- what is asked after both walks: a side that is bounded by a finite number at most its goal
+abbrev pub closedOf : TailBound → Float → Bool
+closedOf Open goal = false
+closedOf (At b) goal = isFinite b && le b goal
 
-unfoldable pub unboundedOf : TailBound → TailBound → Float → Bool
-unboundedOf l r goal = aboveOf l goal || aboveOf r goal
+unfoldable pub bothClosed : TailBound → TailBound → Float → Bool
+bothClosed l r goal = closedOf l goal && closedOf r goal
 
 -- What the walks of one litter share: its pups, mean and spread, and the mode, the logarithm there, the scale and the goal.
 -- A new bound is taken only where the density rises toward the mode.
@@ -78,12 +79,12 @@ pub record Span : Type 0 where
   pub left : Float
   pub right : Float
 
--- reason 3: a side's bound is above its goal
+-- reason 3: a side is open, or its bound is a NaN, infinite or above its goal
 unfoldable pub span : (Float → Eval) → Hill → Work Eval Point Span
 span here h = do
   l ← walk here h Left 30 0 (outwardOf Left (h .mode) (h .delta)) Open
   r ← walk here h Right 30 0 (outwardOf Right (h .mode) (h .delta)) Open
-  cond (unboundedOf (l .bound) (r .bound) (h .goal)) (stop (domain 3)) (ret (record { left = l .z; right = r .z }))
+  cond (bothClosed (l .bound) (r .bound) (h .goal)) (ret (record { left = l .z; right = r .z })) (stop (domain 3))
 
 -- 1e-13
 abbrev pub tail-share : Float

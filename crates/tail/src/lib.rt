@@ -3,7 +3,7 @@ use posterior::integrand::Posterior;
 use posterior::side::Side;
 use work::Ending;
 ghost use mathlib.Core.Path.{_≡_};
-ghost use Rattle.tail.specs.Tail.{termOf, tailBoundOf, withinOf, aboveOf, unboundedOf, boundAfter, goalOf, tailOf, rangeOf};
+ghost use Rattle.tail.specs.Tail.{termOf, tailBoundOf, withinOf, closedOf, bothClosed, boundAfter, goalOf, tailOf, rangeOf};
 
 // A side: not yet bounded, or bounded by a number, which may be infinite or a NaN.
 pub enum TailBound {
@@ -71,23 +71,22 @@ fn within(b: TailBound, goal: f64) -> bool
     }
 }
 
-fn above(b: TailBound, goal: f64) -> bool
-    ensures { λ r. ⌜ r ≡ aboveOf b goal ⌝ }
+fn closed(b: TailBound, goal: f64) -> bool
+    ensures { λ r. ⌜ r ≡ closedOf b goal ⌝ }
 {
-    let open = num::infinity() > goal;
     match b {
-        TailBound::Open => open,
-        TailBound::At(x) => x > goal,
+        TailBound::Open => false,
+        TailBound::At(x) => num::both(num::is_finite(x), x <= goal),
     }
 }
 
-fn unbounded(l: TailBound, r: TailBound, goal: f64) -> bool
-    ensures { λ b. ⌜ b ≡ unboundedOf l r goal ⌝ }
+fn both_closed(l: TailBound, r: TailBound, goal: f64) -> bool
+    ensures { λ b. ⌜ b ≡ bothClosed l r goal ⌝ }
 {
-    if above(l, goal) {
-        return true;
+    if closed(l, goal) {
+        return closed(r, goal);
     }
-    above(r, goal)
+    false
 }
 
 fn bound_after(h: Hill, side: Side, b: TailBound, z: f64, log: f64, slope: f64) -> TailBound
@@ -170,19 +169,19 @@ pub fn bounded(p: Posterior, h: Hill) -> Range
     }
     let lb = l.bound;
     let rb = r.bound;
-    if unbounded(lb, rb, h.goal) {
+    if both_closed(lb, rb, h.goal) {
         return Range {
-            end: Ending::Domain(3),
+            end: Ending::Answered,
             p: q,
-            left: 0.0,
-            right: 0.0,
+            left: l.z,
+            right: r.z,
         };
     }
     Range {
-        end: Ending::Answered,
+        end: Ending::Domain(3),
         p: q,
-        left: l.z,
-        right: r.z,
+        left: 0.0,
+        right: 0.0,
     }
 }
 

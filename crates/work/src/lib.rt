@@ -2,7 +2,7 @@
 ghost use mathlib.Core.Path.{_≡_};
 ghost use Rattle.work.specs.Ended.{isRefused, numberOf, reasonOf};
 
-// An answer's ending. A `Domain` carries its reason, 1 to 5.
+// An answer's ending. A `Domain` carries its reason, 1 to 6.
 pub enum Ending {
     Answered,
     InvalidInput,

@@ -1,14 +1,14 @@
--- `shape::all_finite` meets its contract, as the numbers still to come decide the whole.
+-- `finite::all_finite` meets its contract, as the numbers still to come decide the whole.
 use mathlib.Core.Path.{_≡_, refl}
 use Prim.Native.Nat.{_-_}
 use native.Mathlib.Nat.{sub-zero}
 use lib.ListN.{length}
-use Rattle.intervals.specs.Shape.{finiteFrom, allFinite}
-use Rattle.intervals.proofs.Laws.{finite-stops, finite-turn, finite-done}
+use Rattle.finite.specs.Finite.{finiteFrom, allFinite}
+use Rattle.finite.proofs.Laws.{finite-stops, finite-turn, finite-done}
 use borrow.Author.Needs.{needs}
 use Rattle.num.specs.Choose.{choose}
-use Rattle.intervals.proofs.shape.all_finite.Statement.{statement}
-use Rattle.intervals.proofs.shape.all_finite.Tie as tie
+use Rattle.finite.proofs.all_finite.Statement.{statement}
+use Rattle.finite.proofs.all_finite.Tie as tie
 
 abbrev Inv-loop : tie.InvT-loop
 Inv-loop v i₀ i-end i = finiteFrom v (length v - i) i ≡ allFinite v

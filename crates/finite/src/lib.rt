@@ -1,0 +1,14 @@
+// Whether every number of a lent run is finite.
+ghost use mathlib.Core.Path.{_≡_};
+ghost use Rattle.finite.specs.Finite.{allFinite};
+
+pub fn all_finite(v: &[f64]) -> bool
+    ensures { λ r. ⌜ (r ≡ allFinite (now (v .entry))) × (now (v .exit) ≡ now (v .entry)) ⌝ }
+{
+    for i in 0..v.len() {
+        if !num::is_finite(v[i]) {
+            return false;
+        }
+    }
+    true
+}
