@@ -161,6 +161,50 @@ static void intervals(int where) {
     }
 }
 
+/* The archive of the four litters: 60 bytes. Written into o bytes; then its first a bytes are asked for a range into c counts, and checked. */
+enum { ARCHIVE = 12 * 4 + 12 };
+
+static void one_write(size_t l, size_t o, int where) {
+    struct lent ll = lend(litters, 4 * l, where), lo = lend(NULL, o, where);
+    size_t bytes = probit_archive_size(l / 3);
+    uint64_t end = probit_archive_write((uint32_t *)ll.at, l, lo.at, o);
+    int answered = l <= WHOLE && l % 3 == 0 && o >= bytes;
+    expect(end == (answered ? PROBIT_ANSWERED : PROBIT_INVALID_INPUT) && kept(&lo, answered ? bytes : 0) && (!l || !memcmp(ll.at, litters, 4 * l)), "probit_archive_write", l, o, 0, 0);
+    if (answered)
+        expect(probit_archive_check(lo.at, bytes) == 1 && probit_archive_check(lo.at, o) == (o == bytes), "probit_archive_check", l, o, 0, 0);
+    give_back(&ll), give_back(&lo);
+}
+
+static void one_range(const uint8_t *archive, size_t a, size_t from, size_t to, size_t c, int where) {
+    struct lent la = lend(archive, a, where), lc = lend(NULL, 8 * c, where);
+    uint64_t end = probit_archive_range(la.at, a, from, to, (uint64_t *)lc.at, c);
+    int fits = c >= PROBIT_SUMMARY_COUNTS, shaped = a == ARCHIVE, answered = fits && shaped && from <= to && to <= 4;
+    int good = end == (!fits ? PROBIT_INVALID_INPUT : !shaped ? PROBIT_FORM : answered ? PROBIT_ANSWERED : PROBIT_INVALID_INPUT);
+    good &= kept(&lc, fits ? 8 * PROBIT_SUMMARY_COUNTS : 0) && (!a || !memcmp(la.at, archive, a));
+    if (fits) {
+        const uint64_t *x = (uint64_t *)lc.at;
+        good &= x[PROBIT_SUMMARY_LITTERS] + x[PROBIT_SUMMARY_GROUP + PROBIT_SUMMARY_LITTERS] == (answered ? to - from : 0);
+    }
+    expect(good, "probit_archive_range", a, from, to, c);
+    expect(probit_archive_check(la.at, a) == (uint64_t)shaped, "probit_archive_check", a, 0, 0, 0);
+    give_back(&la), give_back(&lc);
+}
+
+static void archives(int where) {
+    static const size_t ends[] = {0, 1, 2, 3, 4, 5, SIZE_MAX};
+    uint8_t archive[ARCHIVE + 1] = {0};
+    for (size_t l = 0; l <= WHOLE + 1; l++)
+        for (size_t o = 0; o <= ARCHIVE + 2; o++)
+            one_write(l, o, where);
+    expect(probit_archive_write(litters, WHOLE, archive, ARCHIVE) == PROBIT_ANSWERED && probit_archive_size(4) == ARCHIVE, "probit_archive_write", WHOLE, ARCHIVE, 0, 0);
+    for (size_t a = 0; a <= ARCHIVE + 1; a++)
+        for (size_t c = 0; c <= PROBIT_SUMMARY_COUNTS + 1; c++)
+            one_range(archive, a, 1, 3, c, where);
+    for (size_t i = 0; i < sizeof ends / sizeof *ends; i++)
+        for (size_t j = 0; j < sizeof ends / sizeof *ends; j++)
+            one_range(archive, ARCHIVE, ends[i], ends[j], PROBIT_SUMMARY_COUNTS, where);
+}
+
 static void one_text(size_t r, size_t o, int where) {
     struct lent lr = lend(request, r, where), lo = lend(NULL, o, where);
     size_t n = probit_text(lr.at, r, lo.at, o);
@@ -207,6 +251,8 @@ static void too_long(void) {
         expect(probit_objective(point, PROBIT_POINT, none, n, numbers, PROBIT_OBJECTIVE_NUMBERS, counts, PROBIT_OBJECTIVE_COUNTS) == PROBIT_INVALID_INPUT, "probit_objective", n, 0, 0, 0);
         expect(probit_summary(none, n, counts, PROBIT_SUMMARY_COUNTS) == PROBIT_INVALID_INPUT, "probit_summary", n, 0, 0, 0);
     }
+    expect(probit_archive_write(none, PROBIT_LITTER_NUMBERS * (PROBIT_MAX_ARCHIVE + 1), out, sizeof out) == PROBIT_INVALID_INPUT, "probit_archive_write", PROBIT_MAX_ARCHIVE + 1, 0, 0, 0);
+    expect(probit_archive_size(PROBIT_MAX_ARCHIVE) == PROBIT_MAX_ARCHIVE_BYTES && !probit_archive_size(PROBIT_MAX_ARCHIVE + 1) && !probit_archive_size(SIZE_MAX), "probit_archive_size", 0, 0, 0, 0);
     expect(probit_text(none, PROBIT_MAX_REQUEST + 1, out, sizeof out) == 14 && !memcmp(out, "refused 4 0 0\n", 14), "probit_text", bytes, 0, 0, 0);
     munmap(none, bytes);
 }
@@ -297,6 +343,7 @@ int main(int argc, char **argv) {
         for (size_t r = 0; r < sizeof request; r++)
             one_text(r, PROBIT_TEXT, where);
         intervals(where);
+        archives(where);
         one_fit(0, 0, 0, 0, where), one_objective(0, 0, 0, 0, where), one_summary(0, 0, where), one_text(0, 0, where);
     }
     most_litters();

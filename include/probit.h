@@ -23,7 +23,7 @@ extern "C" {
 /* ---- The version of this interface: 1000 times the first number, and the second. The second rises when something is added, the first when something
  * here changes or goes. A library fits a host if its first number is the header's and its version is no less:
  *   probit_version() / 1000 == PROBIT_VERSION / 1000 && probit_version() >= PROBIT_VERSION */
-#define PROBIT_VERSION 1004
+#define PROBIT_VERSION 1005
 
 uint64_t probit_version(void);
 
@@ -53,7 +53,7 @@ enum {
     PROBIT_INVALID_INPUT = 1, /* a length, a bound, a limit or a litter is not as asked; no evaluation was made */
     PROBIT_DOMAIN = 2,        /* the numbers led nowhere; the reason is one of those below */
     PROBIT_WORK_BUDGET = 3,   /* the limit of quadrature evaluations was met before the answer */
-    PROBIT_FORM = 4,          /* in text alone: the request has not the form, and a line's number stands for the reason */
+    PROBIT_FORM = 4,          /* in text and archives: the request has not the form, and a line's number stands for the reason; of an archive the line is 0 */
     PROBIT_UNSUPPORTED = 8    /* of intervals alone: an interval that is not finite, positive and increasing */
 };
 
@@ -178,6 +178,31 @@ enum { PROBIT_LOG_ERROR, PROBIT_LOWER, PROBIT_UPPER };
 
 uint64_t probit_intervals(const double *estimates, size_t estimates_len, const double *covariance, size_t covariance_len, const double *errors,
                           size_t errors_len, uint64_t marks, double *numbers, size_t numbers_len);
+
+/* ---- Archives: up to PROBIT_MAX_ARCHIVE past litters in bytes, with totals in between, so that the summary between two positions is found
+ * without walking along them (docs/FORMAT.md has the layout). Litters are counted from 0. The limit of a fit, PROBIT_MAX_LITTERS, does not apply. */
+#define PROBIT_MAX_ARCHIVE 4096
+#define PROBIT_MAX_ARCHIVE_BYTES 51212
+
+/* The bytes of an archive of that many litters; 0 for more than PROBIT_MAX_ARCHIVE. */
+size_t probit_archive_size(size_t litters);
+
+/* Writes the archive of these litters; bytes past it are left as they were. No litter at all is an archive too.
+ * PROBIT_INVALID_INPUT, and nothing is written: a litter that is not valid, a rest of one or two numbers, more than PROBIT_MAX_ARCHIVE litters, or
+ *   fewer bytes than probit_archive_size says. */
+uint64_t probit_archive_write(const uint32_t *litters, size_t litters_len, uint8_t *archive, size_t archive_len);
+
+/* The summary from one position up to but not including another. It reads the trailer, and for each position at most one of the totals and 63 litters.
+ *
+ * counts (PROBIT_SUMMARY_COUNTS or more): as those of probit_summary. Every refusal but a short buffer puts zeros there; the first that holds is answered:
+ *   PROBIT_FORM: the bytes have not the shape of an archive;
+ *   PROBIT_INVALID_INPUT: from is above to, or to above the number of litters; then, one of the litters read is not valid;
+ *   PROBIT_FORM: a sum past 32 bits, or a difference below 0, as totals that are not right may give.
+ * What is not read is not judged: probit_archive_check does that. A buffer that is too short is PROBIT_INVALID_INPUT, and nothing is written. */
+uint64_t probit_archive_range(const uint8_t *archive, size_t archive_len, size_t from, size_t to, uint64_t *counts, size_t counts_len);
+
+/* 1 where the archive's shape, every litter and all totals are right, else 0. Of such an archive every range is what probit_summary would count. */
+uint64_t probit_archive_check(const uint8_t *archive, size_t archive_len);
 
 /* ---- The text entry: the bytes that the program probitfit reads, and those that it prints (docs/FORMAT.md).
  * A request begins

@@ -47,6 +47,22 @@ static double ends[PROBIT_INTERVALS_NUMBERS];
 
 static void intervals(void) { probit_intervals(estimates, 2, covariance, 4, errors, 2, 3, ends, PROBIT_INTERVALS_NUMBERS); }
 
+/* an archive of the study's litters, as often as its 4,096 hold them; the range reads 63 litters at each end where there are as many */
+static uint32_t past[3 * PROBIT_MAX_ARCHIVE];
+static uint8_t archive[PROBIT_MAX_ARCHIVE_BYTES];
+static size_t kept;
+
+static void keep(void) {
+    kept = PROBIT_MAX_ARCHIVE - PROBIT_MAX_ARCHIVE % (litters_len / 3);
+    for (size_t i = 0; i < 3 * kept; i++) past[i] = litters[i % litters_len];
+    if (probit_archive_write(past, 3 * kept, archive, sizeof archive) || probit_archive_check(archive, probit_archive_size(kept)) != 1) exit(2);
+}
+
+static void size(void) { kept += probit_archive_size(kept) == 0; }
+static void writes(void) { probit_archive_write(past, 3 * kept, archive, sizeof archive); }
+static void range(void) { probit_archive_range(archive, probit_archive_size(kept), 63, kept - 1, counts, PROBIT_SUMMARY_COUNTS); }
+static void check(void) { probit_archive_check(archive, probit_archive_size(kept)); }
+
 static size_t taken(void (*f)(void)) {
     size_t clean = 0;
     memset(stack, PAINT, sizeof stack);
@@ -103,7 +119,8 @@ static const struct {
     void (*f)(void);
 } functions[] = {{"probit_fit", fit}, {"probit_objective", objective}, {"probit_summary", summary}, {"probit_text", text},
                  {"probit_part", part}, {"probit_finish", finish}, {"probit_answer", answer},
-                 {"probit_intervals", intervals}};
+                 {"probit_intervals", intervals},
+                 {"probit_archive_size", size}, {"probit_archive_write", writes}, {"probit_archive_range", range}, {"probit_archive_check", check}};
 
 static const struct {
     size_t n;
@@ -122,6 +139,7 @@ int main(void) {
             size_t n;
             study(studies[j].n, studies[j].mean, studies[j].sd, studies[j].limit);
             begin();
+            keep();
             if (functions[i].f == finish || functions[i].f == answer)
                 part();
             n = taken(functions[i].f);
@@ -131,7 +149,7 @@ int main(void) {
             }
             worst = n > worst ? n : worst;
         }
-        printf("%-18s %6zu bytes\n", functions[i].name, worst);
+        printf("%-20s %6zu bytes\n", functions[i].name, worst);
         most = worst > most ? worst : most;
     }
     printf("stack: %zu bytes at most, %d are said to be enough\n", most, SAID);

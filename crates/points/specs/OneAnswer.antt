@@ -40,6 +40,11 @@ use Rattle.objective.specs.Litters.{validLitters, validPoint}
 use Rattle.objective.specs.Totals.{indexOf, accumulatedOf, finiteTotals}
 use Rattle.objective.specs.Objective.{endedOf, limitedOf, objectiveOf}
 use Rattle.descent.specs.Status as status
+use Rattle.archive.specs.Layout.{numberOf as Archive·numberOf, sizeOf, shapeOf}
+use Rattle.archive_range.specs.Reads.{runningOf}
+use Rattle.archive_range.specs.Range.{differenceOf, rangeOf as Archive·rangeOf}
+use Rattle.archive_check.specs.Check.{checkOf}
+use Rattle.archive_write.specs.Archive.{writtenOf}
 use Rattle.summary.specs.Summary.{extremeOf, noCounts, plusOf, litterCountsOf, countsOf, summaryOf}
 use Rattle.request.specs.declared.Request.{Request}
 use Rattle.request.specs.Request.{upTo, admits, startOf, lowOf, highOf}
@@ -150,6 +155,9 @@ of-fit = (one4 _, one2 _, one6 _, one2 _)
 
 pub of-litters : One1 (λ (ls : List Litter). withRows ls 0 noRows) × One1 roomOf
 of-litters = (one1 _, one1 _)
+
+pub of-archive : One1 Archive·numberOf × One1 sizeOf × One1 shapeOf × One2 runningOf × One2 differenceOf × One3 Archive·rangeOf × One1 checkOf × One2 writtenOf
+of-archive = (one1 _, one1 _, one1 _, one2 _, one2 _, one3 _, one1 _, one2 _)
 
 -- of lent litters
 pub of-records : One2 (λ (r : Request) (ls : List Litter). fitOf r (numbersOf ls)) × One2 (λ (x : List Float) (ls : List Litter). objectiveOf x (numbersOf ls)) × One1 (λ (ls : List Litter). summaryOf (numbersOf ls))

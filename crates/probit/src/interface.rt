@@ -17,6 +17,7 @@ ghost use Rattle.request.specs.Request.{requestOf};
 ghost use Rattle.text.specs.Answer.{answerText};
 ghost use Rattle.print.specs.Room.{room};
 ghost use Rattle.intervals.specs.Intervals.{filled, intervalsFilled};
+ghost use Rattle.archive_host.specs.Host.{given as left, rangeGiven, writeGiven, checkGiven, sizeGiven};
 ghost use Rattle.objective.specs.Coordinates.{pointOf};
 ghost use Rattle.buffers.specs.Buffers.{given, fitGiven, objectiveGiven, summaryGiven};
 ghost use Rattle.parts.specs.Lent.{lent, told, partIn, finishIn};
@@ -127,12 +128,49 @@ pub extern "C" fn probit_intervals(
     intervals::put_intervals(estimates, covariance, errors, marks, numbers)
 }
 
+// The bytes of an archive of that many litters; 0 for more than 4,096.
+#[no_mangle]
+pub extern "C" fn probit_archive_size(litters: usize) -> usize
+    ensures { λ n. ⌜ n ≡ sizeGiven litters ⌝ }
+{
+    archive_host::size_in(litters)
+}
+
+// Litters in, three numbers each, an archive's bytes out. Answers 0, or 1 and nothing is written.
+#[no_mangle]
+pub extern "C" fn probit_archive_write(litters: &[u32], archive: &mut [u8]) -> u64
+    ensures { λ r. ⌜ left r (now (archive .exit)) ≡ writeGiven (now (litters .entry)) (now (archive .entry)) ⌝ }
+{
+    archive_host::write_in(litters, archive)
+}
+
+// The eight counts from one position up to but not including another. Answers 0, 1 or 4.
+#[no_mangle]
+pub extern "C" fn probit_archive_range(
+    archive: &[u8],
+    from: usize,
+    to: usize,
+    counts: &mut [u64],
+) -> u64
+    ensures { λ r. ⌜ left r (now (counts .exit)) ≡ rangeGiven (now (archive .entry)) from to (now (counts .entry)) ⌝ }
+{
+    archive_host::range_in(archive, from, to, counts)
+}
+
+// 1 for an archive whose shape, litters and totals are right, else 0.
+#[no_mangle]
+pub extern "C" fn probit_archive_check(archive: &[u8]) -> u64
+    ensures { λ r. ⌜ r ≡ checkGiven (now (archive .entry)) ⌝ }
+{
+    archive_host::check_in(archive)
+}
+
 // The interface's version: 1000 times its first number, and its second.
 #[no_mangle]
 pub extern "C" fn probit_version() -> u64
-    ensures { λ r. ⌜ r ≡ 1004 ⌝ }
+    ensures { λ r. ⌜ r ≡ 1005 ⌝ }
 {
-    1004
+    1005
 }
 
 // A request's bytes in, its answer's bytes out: how many, or 0 where `out` has fewer than 512 bytes, and then it is left as it was.

@@ -1,0 +1,48 @@
+-- What an archive's shape is, in words of its own, and that the test says exactly that.
+use mathlib.Core.Path.{_≡_, refl}
+use mathlib.Core.Bool.{Bool, true, false, _&&_}
+use mathlib.Core.List.{List}
+use Prim.Native.Nat.{ℕ, _+_, _*_, _/_, _≤_}
+use native.Mathlib.Omega.{arith}
+use borrow.Author.Tests.{leb-true, le-leb, eqb-true, eq-eqb}
+use lib.Dec.{leb, eqb}
+use lib.ListN.{length}
+use Rattle.archive.specs.Layout.{sizeOf, countIn, totalsByteIn, litterByteIn, trailerHolds, shapeOf}
+
+pub record Shaped (b : List ℕ) : Type 0 where
+  pub few : countIn b ≤ 4096
+  pub long : length b ≡ 12 * countIn b + 32 * (countIn b / 64) + 12
+  pub totals : totalsByteIn b ≡ 12 * countIn b
+  pub litters : litterByteIn b ≡ 0
+
+pub and-left : (a b : Bool) → (a && b) ≡ true → a ≡ true
+and-left true b e = refl
+and-left false b e = e
+
+pub and-right : (a b : Bool) → (a && b) ≡ true → b ≡ true
+and-right true b e = e
+and-right false b e = cc
+
+pub and-both : (a b : Bool) → a ≡ true → b ≡ true → (a && b) ≡ true
+and-both a b e f = rw (e, f)
+
+module _ (b : List ℕ) where
+  pub shape-holds : shapeOf b ≡ true → Shaped b
+  unfolding shapeOf sizeOf
+  shape-holds h =
+      let one = and-right (leb 12 (length b)) (trailerHolds b) h in
+      let bytes = eqb (totalsByteIn b) (12 * countIn b) && eqb (litterByteIn b) 0 in
+      let long = eqb (length b) (12 * countIn b + 32 * (countIn b / 64) + 12) in
+      let two = and-right (leb (countIn b) 4096) (long && bytes) one in
+      let three = and-right long bytes two in
+      record {
+        few = leb-true (countIn b) 4096 (and-left (leb (countIn b) 4096) (long && bytes) one);
+        long = eqb-true (length b) (12 * countIn b + 32 * (countIn b / 64) + 12) (and-left long bytes two);
+        totals = eqb-true (totalsByteIn b) (12 * countIn b) (and-left (eqb (totalsByteIn b) (12 * countIn b)) (eqb (litterByteIn b) 0) three);
+        litters = eqb-true (litterByteIn b) 0 (and-right (eqb (totalsByteIn b) (12 * countIn b)) (eqb (litterByteIn b) 0) three);
+      }
+
+  pub shape-is : Shaped b → shapeOf b ≡ true
+  unfolding shapeOf sizeOf
+  shape-is s =
+      rw (le-leb 12 (length b) (omega (arith, s .long)), le-leb (countIn b) 4096 (s .few), eq-eqb (length b) (12 * countIn b + 32 * (countIn b / 64) + 12) (s .long), eq-eqb (totalsByteIn b) (12 * countIn b) (s .totals), eq-eqb (litterByteIn b) 0 (s .litters))

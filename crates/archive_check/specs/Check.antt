@@ -1,0 +1,30 @@
+-- The full check, litter by litter: each is valid, and where a full 64 litters end, the totals there are what was counted up to there.
+use mathlib.Core.Bool.{Bool, true, _&&_, cond}
+use mathlib.Core.List.{List}
+use Prim.Native.Nat.{ℕ, zero, suc, _-_, _/_, _%_}
+use lib.Dec.{eqb}
+use Rattle.summary.specs.declared.GroupCounts.{GroupCounts}
+use Rattle.archive.specs.declared.counts.Counts.{Counts}
+use Rattle.archive.specs.Layout.{validIn, countIn, shapeOf}
+use Rattle.archive.specs.Counts.{totalsIn, countsTo}
+
+unfoldable pub sameGroup : GroupCounts → GroupCounts → Bool
+sameGroup a b = (eqb (a .litters) (b .litters) && eqb (a .successes) (b .successes)) && (eqb (a .trials) (b .trials) && eqb (a .extreme) (b .extreme))
+
+unfoldable pub sameOf : Counts → Counts → Bool
+sameOf a b = sameGroup (a .first) (b .first) && sameGroup (a .second) (b .second)
+
+-- the totals after the first i litters, where there are any, are c
+unfoldable pub totalsHold : List ℕ → ℕ → Counts → Bool
+totalsHold b i c = cond (eqb (i % 64) 0) (sameOf c (totalsIn b (countIn b) (i / 64 - 1))) true
+
+unfoldable pub holdsAt : List ℕ → ℕ → Bool
+holdsAt b i = validIn b i && totalsHold b (suc i) (countsTo b (suc i))
+
+-- k litters from the i-th on
+unfoldable pub holdsFrom : List ℕ → ℕ → ℕ → Bool
+holdsFrom b zero i = true
+holdsFrom b (suc k) i = holdsAt b i && holdsFrom b k (suc i)
+
+unfoldable pub checkOf : List ℕ → Bool
+checkOf b = shapeOf b && holdsFrom b (countIn b) 0

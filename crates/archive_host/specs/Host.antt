@@ -1,0 +1,45 @@
+-- What a host's calls on an archive answer, and what they leave in its buffers.
+use mathlib.Core.Bool.{cond}
+use mathlib.Core.List.{List, [], _∷_, _++_}
+use Prim.Native.Nat.{ℕ}
+use lib.Dec.{leb}
+use lib.ListN.{length}
+use Rattle.summary.specs.declared.GroupCounts.{GroupCounts}
+use Rattle.put.specs.Stored.{stored}
+use Rattle.archive.specs.declared.counts.Counts.{Counts}
+use Rattle.archive.specs.Layout.{numberOf, sizeOf}
+use Rattle.archive_range.specs.declared.Range.{Range}
+use Rattle.archive_range.specs.Range.{rangeOf}
+use Rattle.archive_check.specs.Check.{checkOf}
+use Rattle.archive_write.specs.Archive.{writtenOf}
+
+-- a call's value, and what its buffer holds after it
+pub record Given : Type 0 where
+  pub value : ℕ
+  pub out : List ℕ
+
+abbrev pub given : ℕ → List ℕ → Given
+given value out = record { value = value; out = out }
+
+abbrev groupList : GroupCounts → List ℕ
+groupList g = g .litters ∷ g .successes ∷ g .trials ∷ g .extreme ∷ []
+
+-- of group 0, then of group 1
+abbrev pub countsList : Counts → List ℕ
+countsList c = groupList (c .first) ++ groupList (c .second)
+
+unfoldable pub rangePut : Range → List ℕ → Given
+rangePut r counts = given (numberOf (r .end)) (stored counts (countsList (r .counts)))
+
+-- eight places, or nothing is written
+unfoldable pub rangeGiven : List ℕ → ℕ → ℕ → List ℕ → Given
+rangeGiven b from to counts = cond (leb 8 (length counts)) (rangePut (rangeOf b from to) counts) (given 1 counts)
+
+unfoldable pub writeGiven : List ℕ → List ℕ → Given
+writeGiven ls out = given (numberOf (writtenOf ls out .end)) (writtenOf ls out .out)
+
+abbrev pub checkGiven : List ℕ → ℕ
+checkGiven b = cond (checkOf b) 1 0
+
+abbrev pub sizeGiven : ℕ → ℕ
+sizeGiven n = cond (leb n 4096) (sizeOf n) 0

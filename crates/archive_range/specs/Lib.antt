@@ -1,0 +1,4 @@
+pub mod Reads
+pub mod Range
+pub mod Few
+pub mod Counted
