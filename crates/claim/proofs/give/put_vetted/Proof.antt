@@ -1,0 +1,20 @@
+-- `give::put_vetted` meets its contract.
+use Rattle.claim.proofs.Laws.{put-vetted-is}
+use borrow.Author.Needs.{needs}
+use Rattle.claim.proofs.give.put_vetted.Statement.{statement}
+use Rattle.claim.proofs.give.put_vetted.Tie as tie
+
+pub put-vetted-spec : {M : Type 1} → statement M
+put-vetted-spec =
+    tie.close
+    (tie.spec
+    (λ c κs. search needs)
+    (λ c κs. search needs)
+    (λ c. search needs)
+    (λ c κs. search needs)
+    (λ c. search needs)
+    (λ c κs. search needs)
+    (λ c κs. search needs)
+    (λ c. search needs)
+    (λ c. search needs)
+    (λ c. search put-vetted-is))

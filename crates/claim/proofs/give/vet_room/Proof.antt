@@ -1,0 +1,15 @@
+-- `give::vet_room` meets its contract.
+use borrow.Author.Needs.{needs}
+use Rattle.claim.specs.Give.{vetRoom}
+use Rattle.claim.proofs.give.vet_room.Statement.{statement}
+use Rattle.claim.proofs.give.vet_room.Tie as tie
+
+pub vet-room-spec : {M : Type 1} → statement M
+unfolding vetRoom
+vet-room-spec =
+    tie.close
+    (tie.spec
+    (λ c κs. search needs)
+    (λ c κs. search needs)
+    (λ c κs. search needs)
+    (λ c. rw (c .both3 .ensures, c .before .both2 .ensures, c .before .before .both .ensures)))

@@ -1,0 +1,5 @@
+pub mod Vet
+pub mod Accepted
+pub mod Unread
+pub mod Refused
+pub mod Converged
