@@ -1,0 +1,1 @@
+"""From a table of litters to a report: the parts of the command `litterfit`."""
