@@ -1,0 +1,4 @@
+pub mod Plane
+pub mod Mirror
+pub mod Among
+pub mod Spends
