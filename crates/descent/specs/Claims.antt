@@ -5,6 +5,7 @@ use mathlib.Core.List.{List, [], _∷_}
 use Prim.Native.Nat.{ℕ, zero, suc, _+_}
 use native.Mathlib.Omega.{arith}
 use lib.Dec.{T, leb}
+use lib.ListN.{length}
 use lib.Ieee.{Float, binary64, lt, le, isNan, fits, ofBits, mul}
 use lib.Ieee.Bits.{ofBits-fits}
 use Rattle.num.specs.F64.{_⊕_, _⊗_, zero·, half·, one·}
@@ -15,7 +16,7 @@ use Rattle.order.specs.Sums.{add-not-below, sum-not-above, add-left-above, add-
 use Rattle.order.specs.Products.{mul-number-above, mul-number-right, mul-not-above, mul-not-below}
 use Rattle.order.specs.Choices.{abs-not-below}
 use Rattle.work.specs.Work.{Work}
-use Rattle.work.specs.Given.{Given, holds, hears, weaker, tested, passed}
+use Rattle.work.specs.Asks.{Asks, gives, asks, weaker, tested, passed}
 use Rattle.work.specs.Metered.{split}
 use Rattle.descent.specs.declared.Trial.{Trial}
 use Rattle.descent.specs.declared.Trial.the-variants.{NotDownhill, NotMoved, TooLittle, ByDecrease, ByRounding, CutOff}
@@ -85,6 +86,10 @@ module _ {X O D : Type 0} (p : Problem X O D) (Q : X → O → Type 0) where
     pub arrived : Q next c
     pub allowance : a ≡ allowanceOf (p .nll v)
     pub bound : le (p .nll c) (p .nll v ⊕ a) ≡ true
+
+  -- every step by the rounding rule among these trials
+  abbrev pub AllRounded : List Trial → Type 0
+  AllRounded ts = (a : Float) → Among (ByRounding a) ts → Rounded a
 
 -- ---- the bounds of one step
 share-above : lt zero· decrease-share ≡ true
@@ -180,13 +185,30 @@ other-kind a s e = cc
 same-allowance : (a b : Float) → ByRounding a ≡ ByRounding b → a ≡ b
 same-allowance a b e = cc
 
--- ---- every answer of a descent was led to by its trials
-module _ {X O D : Type 0} (p : Problem X O D) (Q : X → O → Type 0) (x₀ : X) (v₀ : O) where
-  abbrev Every : {A : Type 0} → (A → Type 0) → Work (Asked X) O A → Type 0
-  Every P w = Given (λ (q : Asked X) (v : O). Q (q .at) v) P w
-
+-- ---- every answer of a descent was led to by its trials, and so was every question that it asks
+module _ {X O D : Type 0} (p : Problem X O D) (Q : X → O → Type 0) (x₀ : X) (v₀ : O) (start : Q x₀ v₀) where
   abbrev Here : X → O → List Trial → Type 0
   Here x v ts = Led p Q x₀ v₀ x v ts
+
+  pub led-evaluated : {x : X} {v : O} {ts : List Trial} → Here x v ts → Q x v
+  led-evaluated starts = start
+  led-evaluated (stays u l) = led-evaluated l
+  led-evaluated (falls g l) = g .evaluated
+  led-evaluated (rounds-on g l) = g .evaluated
+
+  -- Every step by the rounding rule ends at no more than the f64 sum of the likelihood before it and its own allowance.
+  pub rounding-step : {x : X} {v : O} {ts : List Trial} (a : Float) → Here x v ts → Among (ByRounding a) ts → Rounded p Q a
+  rounding-step a (stays {t = t} u l) (newest e) = absurd (true-not-false (ap (λ s. takenOf s) e ∙ u))
+  rounding-step a (stays u l) (older m) = rounding-step a l m
+  rounding-step a (falls g l) (newest e) = absurd (true-not-false (other-kind a _ (e ∙ g .trial)))
+  rounding-step a (falls g l) (older m) = rounding-step a l m
+  rounding-step a (rounds-on {x = x} {next = next} {v = v} {c = c} g l) (newest e) =
+      let h : a ≡ allowanceOf (p .nll v) = same-allowance a _ (e ∙ g .trial) in
+      record { x = x; v = v; next = next; c = c; from = led-evaluated l; arrived = g .evaluated; allowance = h; bound = rw h (g .bound) }
+  rounding-step a (rounds-on g l) (older m) = rounding-step a l m
+
+  abbrev Every : {A : Type 0} → (A → Type 0) → Work (Asked X) O A → Type 0
+  Every P w = Asks (λ (q : Asked X) (v : O). Q (q .at) v) (λ (q : Asked X). AllRounded p Q (q .trials)) P w
 
   -- what a trial or a search from x came to, and the trials with it
   data Came (x : X) (v : O) : Step X O → List Trial → Type 0 where
@@ -209,8 +231,10 @@ module _ {X O D : Type 0} (p : Problem X O D) (Q : X → O → Type 0) (x₀ : X
   unfolding try
   tried x v d alpha e ts l =
       let next = p .candidate x d alpha in
-      tested (idle p x v next) (λ i. holds (none (stays (idle-untaken x v next) l)))
-      (λ i. hears (λ c q. tested (accepts p x v next c) (λ a. holds (there (accepted x v next c ts i a q l))) (λ a. holds (none (stays refl l)))))
+      tested (idle p x v next) (λ i. gives (none (stays (idle-untaken x v next) l)))
+      (λ i.
+      asks (λ a m. rounding-step a l m)
+      (λ c q. tested (accepts p x v next c) (λ a. gives (there (accepted x v next c ts i a q l))) (λ a. gives (none (stays refl l)))))
 
   by-step : {B : Type 0} {R : B → Type 0} {x : X} {v : O} {s : Step X O} {ts : List Trial} {go : X → O → Work (Asked X) O B} {halt : Work (Asked X) O B} → Came x v s ts → ((next : X) (c : O) → Here next c ts → Every R (go next c)) → (Here x v ts → Every R halt) → Every R (orElse p go halt s)
   by-step (there l) g h = g _ _ l
@@ -218,56 +242,42 @@ module _ {X O D : Type 0} (p : Problem X O D) (Q : X → O → Type 0) (x₀ : X
 
   sought : (x : X) (v : O) (d : D) (n : ℕ) (alpha : Float) (e : ℕ) (ts : List Trial) → Here x v ts → Every (λ s. Came x v (s .step) (s .trials)) (search p x v d n alpha e ts)
   unfolding search
-  sought x v d zero alpha e ts l = holds (none l)
+  sought x v d zero alpha e ts l = gives (none l)
   sought x v d (suc n) alpha e ts l =
-      tested (leb (p .most) e) (λ t. holds (none (stays refl l)))
+      tested (leb (p .most) e) (λ t. gives (none (stays refl l)))
       (λ t.
       passed (tried x v d alpha e ts l) (λ r g.
-      by-step g (λ next c k. holds g) (λ k. sought x v d n (alpha ⊗ half·) (r .evaluations) (r .trial ∷ ts) k)))
+      by-step g (λ next c k. gives g) (λ k. sought x v d n (alpha ⊗ half·) (r .evaluations) (r .trial ∷ ts) k)))
 
   descends : (n : ℕ) (x : X) (v : O) (e k : ℕ) (ts : List Trial) → Here x v ts → Every (λ r. Here (r .x) (r .v) (r .trials)) (descend p n x v e k ts)
   unfolding descend
   descends zero x v e k ts l =
-      tested (le (p .norm x v) (p .tolerance)) (λ t. holds l)
-      (λ t. tested (leb (p .most) e) (λ t. holds l) (λ t. holds l))
+      tested (le (p .norm x v) (p .tolerance)) (λ t. gives l)
+      (λ t. tested (leb (p .most) e) (λ t. gives l) (λ t. gives l))
   descends (suc n) x v e k ts l =
-      tested (le (p .norm x v) (p .tolerance)) (λ t. holds l)
+      tested (le (p .norm x v) (p .tolerance)) (λ t. gives l)
       (λ t.
-      tested (leb (p .most) e) (λ t. holds l)
+      tested (leb (p .most) e) (λ t. gives l)
       (λ t.
       passed (sought x v (p .direction x v) 48 one· e ts l) (λ s g.
-      by-step g (λ next c k′. descends n next c (s .evaluations) (k + 1) (s .trials) k′) (λ k′. holds k′))))
+      by-step g (λ next c k′. descends n next c (s .evaluations) (k + 1) (s .trials) k′) (λ k′. gives k′))))
 
-  -- ---- what follows
-  module _ (start : Q x₀ v₀) where
-    pub led-evaluated : {x : X} {v : O} {ts : List Trial} → Here x v ts → Q x v
-    led-evaluated starts = start
-    led-evaluated (stays u l) = led-evaluated l
-    led-evaluated (falls g l) = g .evaluated
-    led-evaluated (rounds-on g l) = g .evaluated
+  -- The likelihood reported is at most the start's, raised by the allowance of each step by the rounding rule.
+  pub at-most-raised : ((x : X) (v : O) → Q x v → T (fits binary64 (p .nll v))) → isNan (p .nll v₀) ≡ false → {x : X} {v : O} {ts : List Trial} → Here x v ts → le (p .nll v) (raisedBy ts (p .nll v₀)) ≡ true
+  unfolding raisedBy
+  at-most-raised f n starts = le-self (p .nll v₀) n
+  at-most-raised f n {v = v} (stays {t = t} {ts = ts} u l) = rw (untaken-raises t ts (p .nll v₀) u) (at-most-raised f n l)
+  at-most-raised f n (falls g l) =
+      rw (g .trial) (le-then-le _ _ _ (decrease-not-above _ _ _ (f _ _ (led-evaluated l)) (g .downhill) (g .bound)) (at-most-raised f n l))
+  at-most-raised f n (rounds-on {v = v} g l) =
+      let k = at-most-raised f n l in
+      rw (g .trial) (le-then-le _ _ _ (g .bound) (add-left-above (p .nll v) (allowanceOf (p .nll v)) _ (allowance-not-below (p .nll v) (le-left _ _ k)) (le-right _ _ (g .bound)) k))
 
-    -- Every step by the rounding rule ends at no more than the f64 sum of the likelihood before it and its own allowance.
-    pub rounding-step : {x : X} {v : O} {ts : List Trial} (a : Float) → Here x v ts → Among (ByRounding a) ts → Rounded p Q a
-    rounding-step a (stays {t = t} u l) (newest e) = absurd (true-not-false (ap (λ s. takenOf s) e ∙ u))
-    rounding-step a (stays u l) (older m) = rounding-step a l m
-    rounding-step a (falls g l) (newest e) = absurd (true-not-false (other-kind a _ (e ∙ g .trial)))
-    rounding-step a (falls g l) (older m) = rounding-step a l m
-    rounding-step a (rounds-on {x = x} {next = next} {v = v} {c = c} g l) (newest e) =
-        let h : a ≡ allowanceOf (p .nll v) = same-allowance a _ (e ∙ g .trial) in
-        record { x = x; v = v; next = next; c = c; from = led-evaluated l; arrived = g .evaluated; allowance = h; bound = rw h (g .bound) }
-    rounding-step a (rounds-on g l) (older m) = rounding-step a l m
+-- before the first trial there is none
+pub none-among : {A Z : Type 0} (a : A) (bs : List A) → bs ≡ [] → Among a bs → Z
+none-among a (b ∷ bs) e m = let z = ap length e in absurd (omega arith)
 
-    -- The likelihood reported is at most the start's, raised by the allowance of each step by the rounding rule.
-    pub at-most-raised : ((x : X) (v : O) → Q x v → T (fits binary64 (p .nll v))) → isNan (p .nll v₀) ≡ false → {x : X} {v : O} {ts : List Trial} → Here x v ts → le (p .nll v) (raisedBy ts (p .nll v₀)) ≡ true
-    unfolding raisedBy
-    at-most-raised f n starts = le-self (p .nll v₀) n
-    at-most-raised f n {v = v} (stays {t = t} {ts = ts} u l) = rw (untaken-raises t ts (p .nll v₀) u) (at-most-raised f n l)
-    at-most-raised f n (falls g l) =
-        rw (g .trial) (le-then-le _ _ _ (decrease-not-above _ _ _ (f _ _ (led-evaluated l)) (g .downhill) (g .bound)) (at-most-raised f n l))
-    at-most-raised f n (rounds-on {v = v} g l) =
-        let k = at-most-raised f n l in
-        rw (g .trial) (le-then-le _ _ _ (g .bound) (add-left-above (p .nll v) (allowanceOf (p .nll v)) _ (allowance-not-below (p .nll v) (le-left _ _ k)) (le-right _ _ (g .bound)) k))
-
--- ---- the theorem: whatever Q is known of the values, the trials led to the answer from one that the start has
-pub descends-by-trials : {X O D : Type 0} (p : Problem X O D) (Q : X → O → Type 0) (x₀ : X) → Given (λ (q : Asked X) (v : O). Q (q .at) v) (Descends p Q x₀) (descent p x₀)
-descends-by-trials p Q x₀ = hears (λ v q. weaker (λ r l. record { start = v; evaluated = q; led = l }) (descends p Q x₀ v (p .turns) x₀ v 1 0 [] starts))
+-- ---- the theorem: whatever Q is known of the values, the trials led to the answer from one that the start has, and the trials before each question were as they say
+pub descends-by-trials : {X O D : Type 0} (p : Problem X O D) (Q : X → O → Type 0) (x₀ : X) → Asks (λ (q : Asked X) (v : O). Q (q .at) v) (λ (q : Asked X). AllRounded p Q (q .trials)) (Descends p Q x₀) (descent p x₀)
+descends-by-trials p Q x₀ =
+    asks (λ a m. none-among (ByRounding a) [] refl m) (λ v q. weaker (λ r l. record { start = v; evaluated = q; led = l }) (descends p Q x₀ v q (p .turns) x₀ v 1 0 [] starts))

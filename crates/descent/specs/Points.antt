@@ -6,7 +6,8 @@ use native.Mathlib.Omega.{arith}
 use Rattle.work.specs.Ended.{Ended, done, stopped, short}
 use Rattle.work.specs.Work.{Work, ret, stop, ask, run, metered}
 use Rattle.work.specs.Given.{Given, holds, refuses, hears, of-metered, own-answer}
-use Rattle.work.specs.Through.{Driven, heard, driven}
+use Rattle.work.specs.Asks.{Asks, gives, asks}
+use Rattle.work.specs.Through.{Open, none, refused, Driven, heard, driven}
 use Rattle.descent.specs.Descent.{Asked}
 use Rattle.descent.specs.Claims.{Among, newest, older}
 
@@ -56,3 +57,17 @@ module _ {E Y X O : Type 0} (at : E → Y) (ev : X → Work E Y O) where
     of-driven ps u a (hears {e = q} {k = k} b) s e =
         goes-on q k a u (metered at l u (ev (q .at)) .ended) (metered at l u (ev (q .at)) .used) refl e
         (λ v i g. of-driven ps _ a (b v (s _ (rw i (newest refl)))) (λ y m. s y (rw i (older m))) g)
+
+    -- a question of a driven descent: heard, and the rest has one that was refused; or refused itself
+    stops-at : {A Z : Type 0} (q o : Asked X) (k : O → Work (Asked X) O A) (u : ℕ) (e : Ended O) (n : ℕ) → metered at l u (ev (q .at)) .ended ≡ e → heard q e n (λ c n. driven at (λ q. ev (q .at)) l n (k c)) .asked ≡ refused o → (q ≡ o → Z) → ((v : O) → noted (q .at) (run at (ev (q .at))) (λ v. pointsIn (k v)) ≡ place (q .at) v ∷ pointsIn (k v) → driven at (λ q. ev (q .at)) l n (k v) .asked ≡ refused o → Z) → Z
+    stops-at q o k u (done v) n h e f g = let r = of-metered at (λ e. refl) l u v (own-answer at (ev (q .at))) h in g v (rw r) e
+    stops-at q o k u (stopped r) n h e f g = f (cc)
+    stops-at q o k u short n h e f g = f (cc)
+
+    -- where I is had by every question that is asked after values that are all among ps, and the points are, I is had by the question that was refused
+    pub of-refused : {A : Type 0} {I : Asked X → Type 0} {P : A → Type 0} {w : Work (Asked X) O A} (ps : List (Place X O)) (u : ℕ) (o : Asked X) → Asks (λ (q : Asked X) (v : O). Among (place (q .at) v) ps) I P w → ((y : Place X O) → Among y (pointsIn w) → Among y ps) → driven at (λ q. ev (q .at)) l u w .asked ≡ refused o → I o
+    unfolding driven pointsIn
+    of-refused ps u o (gives h) s e = impossible (cc)
+    of-refused {I = I} ps u o (asks {e = q} {k = k} i b) s e =
+        stops-at q o k u (metered at l u (ev (q .at)) .ended) (metered at l u (ev (q .at)) .used) refl e (λ h. rw h at i)
+        (λ v j g. of-refused ps _ o (b v (s _ (rw j (newest refl)))) (λ y m. s y (rw j (older m))) g)

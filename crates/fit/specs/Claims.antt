@@ -8,9 +8,11 @@ use lib.Ieee.{Float, binary64, le, fits}
 use Rattle.num.specs.Helpers.{isFinite}
 use Rattle.order.specs.Numbers.{finite-number}
 use Rattle.work.specs.declared.Ending.the-variants.{Answered}
-use Rattle.work.specs.Ended.{Ended, done, valueOr}
+use Rattle.work.specs.Ended.{Ended, done, stopped, short, valueOr}
 use Rattle.work.specs.Work.{run}
 use Rattle.work.specs.Given.{of-run}
+use Rattle.work.specs.Asks.{answers}
+use Rattle.work.specs.Through.{Open, none, refused}
 use Rattle.legendre.specs.Legendre.{legendreOf}
 use Rattle.posterior.specs.Integrand.{at}
 use Rattle.value.specs.declared.Totals.{Totals}
@@ -21,8 +23,9 @@ use Rattle.objective.specs.Finite.{Known, objective-known}
 use Rattle.objective.specs.Bound.{objective-in-full}
 use Rattle.descent.specs.declared.Trial.{Trial}
 use Rattle.descent.specs.declared.Trial.the-variants.{ByRounding}
-use Rattle.descent.specs.Claims.{roundingsOf, raisedBy, Among, Descends, Rounded, unraised, led-evaluated, rounding-step, at-most-raised, descends-by-trials}
-use Rattle.descent.specs.Points.{Place, place, point-value, of-driven}
+use Rattle.descent.specs.Claims.{roundingsOf, raisedBy, Among, Descends, Rounded, unraised, led-evaluated, rounding-step, none-among, at-most-raised, descends-by-trials}
+use Rattle.descent.specs.Descent.{Asked, Descended}
+use Rattle.descent.specs.Points.{Place, place, point-value, of-driven, of-refused}
 use Rattle.request.specs.declared.Request.{Request}
 use Rattle.request.specs.Request.{startOf}
 use Rattle.stepper.specs.Machine.{problemOf}
@@ -66,10 +69,31 @@ module _ (r : Request) (ls : List ℕ) where
     pub value : run at (objective legendreOf x ls) ≡ done v
     pub report : f ≡ toFit Answered (f .quadrature .0) (reportOf r (countOf ls) (f .status) x v (f .evaluations .0) (f .iterations .0))
 
+  -- ---- of every descent, refused or not
+  led-to : (d : Descended (List Float) Totals) → descentOf r ls .ended ≡ done d → Descends (problemOf (planOf r)) Visited (startOf r) d
+  unfolding descentOf pointsOf
+  led-to d e = of-driven at (valueAt legendreOf ls) (r .quadrature .0) (pointsOf r ls) 0 d (answers (descends-by-trials (problemOf (planOf r)) Visited (startOf r))) (λ y m. m) e
+
+  refused-rounding : (q : Asked (List Float)) → descentOf r ls .asked ≡ refused q → (a : Float) → Among (ByRounding a) (q .trials) → Rounded (problemOf (planOf r)) Visited a
+  unfolding descentOf pointsOf
+  refused-rounding q e = of-refused at (valueAt legendreOf ls) (r .quadrature .0) (pointsOf r ls) 0 q (descends-by-trials (problemOf (planOf r)) Visited (startOf r)) (λ y m. m) e
+
+  by-ended : (e : Ended (Descended (List Float) Totals)) (q : Open (Asked (List Float))) → descentOf r ls .ended ≡ e → descentOf r ls .asked ≡ q → (a : Float) → Among (ByRounding a) (trialsIn e q) → Rounded (problemOf (planOf r)) Visited a
+  by-ended (done d) q h k a m = let l = led-to d h in rounding-step (problemOf (planOf r)) Visited (startOf r) (l .start) (l .evaluated) a (l .led) m
+  by-ended (stopped w) none h k a m = none-among (ByRounding a) _ refl m
+  by-ended (stopped w) (refused q) h k a m = refused-rounding q k a m
+  by-ended short none h k a m = none-among (ByRounding a) _ refl m
+  by-ended short (refused q) h k a m = refused-rounding q k a m
+
+  -- A step by the rounding rule, of allowance a, was between two evaluated points, and ends at no more than the f64 sum of the likelihood before it and a;
+  -- of a refused fit too, whose trials are those before its refusal.
+  pub fit-rounding-step : (a : Float) → Among (ByRounding a) (trialsOf r ls) → Rounded (problemOf (planOf r)) Visited a
+  unfolding trialsOf
+  fit-rounding-step a m = by-ended (descentOf r ls .ended) (descentOf r ls .asked) refl refl a m
+
   module _ (h : fitOf r ls .end ≡ Answered) where
     led : Descends (problemOf (planOf r)) Visited (startOf r) (ends r ls h .d)
-    unfolding descentOf pointsOf
-    led = of-driven at (valueAt legendreOf ls) (r .quadrature .0) (pointsOf r ls) 0 (ends r ls h .d) (descends-by-trials (problemOf (planOf r)) Visited (startOf r)) (λ y m. m) (ends r ls h .ended)
+    led = led-to (ends r ls h .d) (ends r ls h .ended)
 
     trials-are : trialsOf r ls ≡ ends r ls h .d .trials
     unfolding trialsOf
@@ -97,10 +121,6 @@ module _ (r : Request) (ls : List ℕ) where
     -- Where no step was taken by the rounding rule, it is at most the start's.
     pub fit-not-worse : roundingsOf (trialsOf r ls) ≡ 0 → le (fitOf r ls .nll) (startingOf r ls) ≡ true
     fit-not-worse z = let k = fit-at-most in rw (unraised (trialsOf r ls) (startingOf r ls) z) at k
-
-    -- A step by the rounding rule, of allowance a, was between two evaluated points, and ends at no more than the f64 sum of the likelihood before it and a.
-    pub fit-rounding-step : (a : Float) → Among (ByRounding a) (trialsOf r ls) → Rounded (problemOf (planOf r)) Visited a
-    fit-rounding-step a m = rounding-step (problemOf (planOf r)) Visited (startOf r) (led .start) (led .evaluated) a (led .led) (rw trials-are at m)
 
     -- The reported point is one that was evaluated, with the value it had.
     pub fit-visited : Reports (fitOf r ls)

@@ -9,7 +9,6 @@ use lib.Dec.{leb, ltb}
 use lib.ListN.{length}
 use lib.Ieee.{Float}
 use Rattle.work.specs.declared.Ending.{Ending}
-use Rattle.work.specs.declared.Ending.the-variants.{Answered}
 use Rattle.work.specs.Ended.{endOf}
 use Rattle.work.specs.Metered.{split}
 use Rattle.descent.specs.declared.Trial.{Trial}
@@ -24,7 +23,7 @@ use Rattle.course.specs.Drives.{courseOf}
 use Rattle.why.specs.declared.Why.{Why}
 use Rattle.why.specs.declared.Why.the-variants.{Made, Refused, Unmade}
 use Rattle.why.specs.Why.{whyIn, whyOf, why-is}
-use Rattle.fit.specs.Fit.{planOf, wholeOf, fitOf, whyFor}
+use Rattle.fit.specs.Fit.{planOf, wholeOf, whyFor}
 use Rattle.fit.specs.Driven.{descentOf, trialsOf}
 use Rattle.fit.specs.Claims.{Visited, fit-rounding-step}
 
@@ -62,5 +61,5 @@ module _ (r : Request) (ls : List ℕ) (n : ℕ) (h : 1 ≤ n) where
       let ts = trialsIn (d .ended) (d .asked) in
       made-among n ts (leb n (length ts + 1) && trialIn (d .asked)) (endOf (d .ended)) t h (sym whole-why ∙ shown-why (whyIn (wholeOf r ls n)) (validLimit (r .quadrature .0)) (admits r ls) t e)
 
-  pub watched-rounding-step : fitOf r ls .end ≡ Answered → (a : Float) → whyFor r ls n ≡ Made (ByRounding a) → Rounded (problemOf (planOf r)) (Visited r ls) a
-  watched-rounding-step k a e = fit-rounding-step r ls k a (watched-among (ByRounding a) e)
+  pub watched-rounding-step : (a : Float) → whyFor r ls n ≡ Made (ByRounding a) → Rounded (problemOf (planOf r)) (Visited r ls) a
+  watched-rounding-step a e = fit-rounding-step r ls a (watched-among (ByRounding a) e)

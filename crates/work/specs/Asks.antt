@@ -23,6 +23,15 @@ module _ {E X A : Type 0} {G : E → X → Type 0} {I : E → Type 0} {P : A →
   passed (gives h) g = g _ h
   passed (asks i b) g = asks i (λ v k. passed (b v k) g)
 
+  pub weaker : {R : A → Type 0} {w : Work E X A} → ((a : A) → P a → R a) → Asks G I P w → Asks G I R w
+  weaker g (gives h) = gives (g _ h)
+  weaker g (asks i b) = asks i (λ v k. weaker g (b v k))
+
+  -- what its answers have, whatever it asks
+  pub answers : {w : Work E X A} → Asks G I P w → given.Given G P w
+  answers (gives h) = given.holds h
+  answers (asks i b) = given.hears (λ v k. answers (b v k))
+
   -- it refuses nothing by itself
   pub never-stops : {w : Work E X A} → ((e : E) (v : X) → G e v) → Asks G I P w → stops.Stops (λ (r : Why). ⊥) w
   never-stops known (gives h) = stops.answers
