@@ -113,6 +113,23 @@ static void one_objective(size_t p, size_t l, size_t n, size_t c, int where) {
     give_back(&lp), give_back(&ll), give_back(&ln), give_back(&lc);
 }
 
+/* the fit of these litters, as it is: ln 2 a litter */
+static const double claimed[PROBIT_CLAIM + 1] = {0, 0, 0, 0, 2.772588722239781, 9};
+
+static void one_vet(size_t b, size_t l, size_t p, size_t n, size_t c, int where) {
+    struct lent lb = lend(bounds, 8 * b, where), ll = lend(litters, 4 * l, where), lp = lend(claimed, 8 * p, where), ln = lend(NULL, 8 * n, where), lc = lend(NULL, 8 * c, where);
+    uint64_t end = probit_vet((double *)lb.at, b, 1e-6, 10, 10, 4, (uint32_t *)ll.at, l, (double *)lp.at, p, (double *)ln.at, n, (uint64_t *)lc.at, c);
+    int fits = b == PROBIT_BOUNDS && p == PROBIT_CLAIM && n >= PROBIT_VET_NUMBERS && c >= PROBIT_VET_COUNTS;
+    int answered = fits && l == WHOLE;
+    int good = end == (answered ? PROBIT_ANSWERED : PROBIT_INVALID_INPUT);
+    good &= kept(&ln, fits ? 8 * PROBIT_VET_NUMBERS : 0) && kept(&lc, fits ? 8 * PROBIT_VET_COUNTS : 0);
+    good &= (!b || !memcmp(lb.at, bounds, 8 * b)) && (!l || !memcmp(ll.at, litters, 4 * l)) && (!p || !memcmp(lp.at, claimed, 8 * p));
+    if (fits)
+        good &= ((uint64_t *)lc.at)[PROBIT_VET_EVALUATED] == (answered ? 4 : 0) && ((double *)ln.at)[PROBIT_VET_NLL] == (answered ? claimed[PROBIT_CLAIM_NLL] : 0);
+    expect(good, "probit_vet", b, p, n, c);
+    give_back(&lb), give_back(&ll), give_back(&lp), give_back(&ln), give_back(&lc);
+}
+
 static void one_summary(size_t l, size_t c, int where) {
     struct lent ll = lend(litters, 4 * l, where), lc = lend(NULL, 8 * c, where);
     uint64_t end = probit_summary((uint32_t *)ll.at, l, (uint64_t *)lc.at, c);
@@ -331,9 +348,15 @@ int main(int argc, char **argv) {
         for (size_t l = 0; l <= WHOLE + 1; l++) {
             one_fit(PROBIT_BOUNDS, l, PROBIT_FIT_NUMBERS, PROBIT_FIT_COUNTS, where);
             one_objective(PROBIT_POINT, l, PROBIT_OBJECTIVE_NUMBERS, PROBIT_OBJECTIVE_COUNTS, where);
+            one_vet(PROBIT_BOUNDS, l, PROBIT_CLAIM, PROBIT_VET_NUMBERS, PROBIT_VET_COUNTS, where);
             for (size_t c = 0; c <= PROBIT_SUMMARY_COUNTS + 1; c++)
                 one_summary(l, c, where);
         }
+        for (size_t b = 0; b <= PROBIT_BOUNDS + 1; b++)
+            for (size_t p = 0; p <= PROBIT_CLAIM + 1; p++)
+                for (size_t n = 0; n <= PROBIT_VET_NUMBERS + 1; n++)
+                    for (size_t c = 0; c <= PROBIT_VET_COUNTS + 1; c++)
+                        one_vet(b, WHOLE, p, n, c, where);
         for (size_t p = 0; p <= PROBIT_POINT + 1; p++)
             for (size_t n = 0; n <= PROBIT_OBJECTIVE_NUMBERS + 1; n++)
                 for (size_t c = 0; c <= PROBIT_OBJECTIVE_COUNTS + 1; c++)
@@ -344,7 +367,7 @@ int main(int argc, char **argv) {
             one_text(r, PROBIT_TEXT, where);
         intervals(where);
         archives(where);
-        one_fit(0, 0, 0, 0, where), one_objective(0, 0, 0, 0, where), one_summary(0, 0, where), one_text(0, 0, where);
+        one_fit(0, 0, 0, 0, where), one_objective(0, 0, 0, 0, where), one_vet(0, 0, 0, 0, 0, where), one_summary(0, 0, where), one_text(0, 0, where);
     }
     most_litters();
     limits();

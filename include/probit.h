@@ -23,7 +23,7 @@ extern "C" {
 /* ---- The version of this interface: 1000 times the first number, and the second. The second rises when something is added, the first when something
  * here changes or goes. A library fits a host if its first number is the header's and its version is no less:
  *   probit_version() / 1000 == PROBIT_VERSION / 1000 && probit_version() >= PROBIT_VERSION */
-#define PROBIT_VERSION 1005
+#define PROBIT_VERSION 1006
 
 uint64_t probit_version(void);
 
@@ -46,7 +46,7 @@ uint64_t probit_version(void);
 
 enum { PROBIT_AFFECTED, PROBIT_PUPS, PROBIT_GROUP };
 
-/* ---- How a call ended: the value of probit_fit, probit_objective and probit_summary, and the number after `refused` in an answer's text.
+/* ---- How a call ended: the value of probit_fit, probit_objective, probit_summary and probit_vet, and the number after `refused` in an answer's text.
  * probit_names.h has these, the reasons and the statuses in words, for a log. */
 enum {
     PROBIT_ANSWERED = 0,
@@ -54,6 +54,9 @@ enum {
     PROBIT_DOMAIN = 2,        /* the numbers led nowhere; the reason is one of those below */
     PROBIT_WORK_BUDGET = 3,   /* the limit of quadrature evaluations was met before the answer */
     PROBIT_FORM = 4,          /* in text and archives: the request has not the form, and a line's number stands for the reason; of an archive the line is 0 */
+    PROBIT_OUTSIDE_BOX = 5,   /* of a claim alone: a coordinate outside its box, or a NaN; no evaluation was made */
+    PROBIT_LIKELIHOOD_DIFFERS = 6, /* of a claim alone: the objective there has another likelihood than the claimed one */
+    PROBIT_NORM_ABOVE = 7,    /* of a claim alone: the projected gradient's norm there is above the tolerance */
     PROBIT_UNSUPPORTED = 8    /* of intervals alone: an interval that is not finite, positive and increasing */
 };
 
@@ -147,6 +150,32 @@ enum { PROBIT_OBJECTIVE_EVALUATED = 0, PROBIT_OBJECTIVE_REASON = 1 };
 
 uint64_t probit_objective(const double *point, size_t point_len, const uint32_t *litters, size_t litters_len, double *numbers, size_t numbers_len,
                           uint64_t *counts, size_t counts_len);
+
+/* ---- Another tool's fit, vetted: is what it claims converged here?
+ *
+ * bounds, tolerance, the three limits and litters: a request, as of probit_fit, and checked in full as there; past its checks no limit is read.
+ * claimed: PROBIT_CLAIM numbers: mean 0, mean 1, variance 0, variance 1, the negative log-likelihood.
+ *
+ * PROBIT_ANSWERED: accepted. The four coordinates lie in their boxes, ends included; the objective is answered there; its likelihood has the claimed
+ *   bits; the projected gradient's norm is at most the tolerance. A fit of probit_fit that converged is accepted, with its own norm.
+ * Else the first of these that holds: PROBIT_INVALID_INPUT, PROBIT_OUTSIDE_BOX, PROBIT_DOMAIN, PROBIT_LIKELIHOOD_DIFFERS, PROBIT_NORM_ABOVE.
+ * Coordinates are compared as numbers: -0 lies at +0. Likelihoods by their bits: -0 and +0 differ, and any NaN is any other.
+ *
+ * numbers (PROBIT_VET_NUMBERS or more): likelihood and norm; zeros beside a refusal. counts (PROBIT_VET_COUNTS or more): the evaluations of the
+ *   integrand, none with PROBIT_INVALID_INPUT and PROBIT_OUTSIDE_BOX, and the reason. Elements after them are left as they were.
+ * Where bounds_len is not PROBIT_BOUNDS, claimed_len not PROBIT_CLAIM, or a buffer is too short, the value is PROBIT_INVALID_INPUT and nothing is written. */
+#define PROBIT_CLAIM 5
+#define PROBIT_VET_NUMBERS 2
+#define PROBIT_VET_COUNTS 2
+
+/* places in claimed, in numbers and in counts */
+enum { PROBIT_CLAIM_MEAN_0, PROBIT_CLAIM_MEAN_1, PROBIT_CLAIM_VARIANCE_0, PROBIT_CLAIM_VARIANCE_1, PROBIT_CLAIM_NLL };
+enum { PROBIT_VET_NLL, PROBIT_VET_NORM };
+enum { PROBIT_VET_EVALUATED, PROBIT_VET_REASON };
+
+uint64_t probit_vet(const double *bounds, size_t bounds_len, double tolerance, uint64_t evaluations, uint64_t iterations, uint64_t quadrature,
+                    const uint32_t *litters, size_t litters_len, const double *claimed, size_t claimed_len, double *numbers, size_t numbers_len,
+                    uint64_t *counts, size_t counts_len);
 
 /* ---- The group summary.
  *

@@ -12,6 +12,9 @@ static inline const char *probit_ending_name(uint64_t ending) {
     case PROBIT_DOMAIN: return "domain";
     case PROBIT_WORK_BUDGET: return "work budget";
     case PROBIT_FORM: return "form";
+    case PROBIT_OUTSIDE_BOX: return "outside the box";
+    case PROBIT_LIKELIHOOD_DIFFERS: return "likelihood differs";
+    case PROBIT_NORM_ABOVE: return "norm above tolerance";
     case PROBIT_UNSUPPORTED: return "unsupported";
     default: return "unknown";
     }

@@ -28,6 +28,14 @@ static void objective(void) {
     probit_objective(point, PROBIT_POINT, litters, litters_len, numbers, PROBIT_OBJECTIVE_NUMBERS, counts, PROBIT_OBJECTIVE_COUNTS);
 }
 
+/* the start claimed, with its likelihood: so the norm is reached */
+static void vet(void) {
+    double claimed[PROBIT_CLAIM] = {point[0], point[1], point[2], point[3], 0};
+    probit_objective(point, PROBIT_POINT, litters, litters_len, numbers, PROBIT_OBJECTIVE_NUMBERS, counts, PROBIT_OBJECTIVE_COUNTS);
+    claimed[PROBIT_CLAIM_NLL] = numbers[PROBIT_OBJECTIVE_NLL];
+    probit_vet(bounds, PROBIT_BOUNDS, 1e-6, 200, 200, quadrature, litters, litters_len, claimed, PROBIT_CLAIM, numbers, PROBIT_VET_NUMBERS, counts, PROBIT_VET_COUNTS);
+}
+
 static void summary(void) { probit_summary(litters, litters_len, counts, PROBIT_SUMMARY_COUNTS); }
 static void text(void) { probit_text((uint8_t *)request, request_len, out, sizeof out); }
 
@@ -117,7 +125,7 @@ static void study(size_t n, double mean, double sd, uint64_t limit) {
 static const struct {
     const char *name;
     void (*f)(void);
-} functions[] = {{"probit_fit", fit}, {"probit_objective", objective}, {"probit_summary", summary}, {"probit_text", text},
+} functions[] = {{"probit_fit", fit}, {"probit_objective", objective}, {"probit_vet", vet}, {"probit_summary", summary}, {"probit_text", text},
                  {"probit_part", part}, {"probit_finish", finish}, {"probit_answer", answer},
                  {"probit_intervals", intervals},
                  {"probit_archive_size", size}, {"probit_archive_write", writes}, {"probit_archive_range", range}, {"probit_archive_check", check}};

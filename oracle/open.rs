@@ -24,3 +24,6 @@ pub fn open_row(mean: f64, variance: f64, row: &Litter, limit: usize) -> Result<
 pub fn open_limited(point: [f64; 4], observations: &[Litter], limit: usize) -> Result<Objective, Error> {
     limited_objective(point, observations, limit)
 }
+pub fn open_norm(x: [f64; 4], gradient: [f64; 4], lo: [f64; 4], hi: [f64; 4]) -> f64 {
+    norm(project(x, gradient, lo, hi))
+}

@@ -55,6 +55,9 @@ use Rattle.stepper.specs.Machine.{beginOf, tellOf}
 use Rattle.course.specs.Course.{refusalOf, stoppedOf}
 use Rattle.drive.specs.Drive.{drivenOf}
 use Rattle.fit.specs.Fit.{fitOf}
+use Rattle.claim.specs.Claim.{numberOf as Claim·numberOf, reasonOf as Claim·reasonOf, pointIn, boxed, refusalOf as Claim·refusalOf, judgedOf as Claim·judgedOf}
+use Rattle.claim.specs.Give.{vetRoom}
+use Rattle.vet.specs.Vet.{vetOf}
 use Rattle.litters.specs.declared.Litter.{Litter}
 use Rattle.litters.specs.Litters.{numbersOf, noRows, withRows, roomOf}
 
@@ -158,6 +161,9 @@ of-litters = (one1 _, one1 _)
 
 pub of-archive : One1 Archive·numberOf × One1 sizeOf × One1 shapeOf × One2 runningOf × One2 differenceOf × One3 Archive·rangeOf × One1 checkOf × One2 writtenOf
 of-archive = (one1 _, one1 _, one1 _, one2 _, one2 _, one3 _, one1 _, one2 _)
+
+pub of-claim : One1 Claim·numberOf × One1 Claim·reasonOf × One1 pointIn × One3 boxed × One2 Claim·refusalOf × One6 Claim·judgedOf × One4 vetRoom × One3 vetOf
+of-claim = (one1 _, one1 _, one1 _, one3 _, one2 _, one6 _, one4 _, one3 _)
 
 -- of lent litters
 pub of-records : One2 (λ (r : Request) (ls : List Litter). fitOf r (numbersOf ls)) × One2 (λ (x : List Float) (ls : List Litter). objectiveOf x (numbersOf ls)) × One1 (λ (ls : List Litter). summaryOf (numbersOf ls))

@@ -24,6 +24,9 @@ use Rattle.render.specs.Written.{written}
 use Rattle.print.specs.Answer.{refusalText, fitText}
 use Rattle.print.specs.Room.{room}
 use Rattle.text.specs.Answer.{requestIn, answerText}
+use Rattle.claimed.specs.Claimed.{readClaimed}
+use Rattle.claimed.specs.Claiming.{claimingOf, fillClaimed}
+use Rattle.vet_text.specs.Answer.{vetText}
 use Rattle.points.specs.OneAnswer.{One1, One2, One3, One4, One5, one-answer, one1, one2, one3, one4, one5}
 
 -- a token's place lies in the text, so the text from there on fixes it
@@ -70,17 +73,26 @@ of-print = (one1 _, one3 _, one4 _, one1 _, one2 _)
 pub of-request-in : One1 requestIn
 of-request-in = one1 _
 
--- `answer` and `probit_text` have two clauses, by the buffer's room
-abbrev pub Answers : List ℕ → List ℕ → ℕ → List ℕ → Type 0
-Answers text out n end =
-    (length out < room → (n ≡ 0) × (end ≡ out)) × (room ≤ length out → (n ≡ length (answerText text)) × (end ≡ written out 0 (answerText text)))
+-- a request with a claim: what is read, and the litters in the buffer
+pub of-claimed : One1 (λ (text : List ℕ). claimingOf (readClaimed text)) × One2 fillClaimed
+of-claimed = (one1 _, one2 _)
 
-pub of-answer : (text out : List ℕ) (n m : ℕ) (a b : List ℕ) → Answers text out n a → Answers text out m b → (n ≡ m) × (a ≡ b)
-of-answer text out n m a b p q =
+-- `answer` and `probit_text` have two clauses, by the buffer's room, and so has the verdict's `answer`; `said` is the whole answer
+abbrev pub Answers : List ℕ → List ℕ → ℕ → List ℕ → Type 0
+Answers said out n end = (length out < room → (n ≡ 0) × (end ≡ out)) × (room ≤ length out → (n ≡ length said) × (end ≡ written out 0 said))
+
+one-said : (said out : List ℕ) (n m : ℕ) (a b : List ℕ) → Answers said out n a → Answers said out m b → (n ≡ m) × (a ≡ b)
+one-said said out n m a b p q =
     cases (ltb (length out) room)
     (λ t.
     let h = ltb-true (length out) room t in
     (one-answer 0 n m (p .0 h .0) (q .0 h .0), one-answer out a b (p .0 h .1) (q .0 h .1)))
     (λ t.
     let h = ltb-false (length out) room t in
-    (one-answer (length (answerText text)) n m (p .1 h .0) (q .1 h .0), one-answer (written out 0 (answerText text)) a b (p .1 h .1) (q .1 h .1)))
+    (one-answer (length said) n m (p .1 h .0) (q .1 h .0), one-answer (written out 0 said) a b (p .1 h .1) (q .1 h .1)))
+
+pub of-answer : (text out : List ℕ) (n m : ℕ) (a b : List ℕ) → Answers (answerText text) out n a → Answers (answerText text) out m b → (n ≡ m) × (a ≡ b)
+of-answer text = one-said (answerText text)
+
+pub of-verdict : (text out : List ℕ) (n m : ℕ) (a b : List ℕ) → Answers (vetText text) out n a → Answers (vetText text) out m b → (n ≡ m) × (a ≡ b)
+of-verdict text = one-said (vetText text)

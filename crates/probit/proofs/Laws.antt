@@ -22,7 +22,11 @@ use Rattle.request.specs.declared.Request.{Request}
 use Rattle.fit.specs.declared.report.Fit.{Fit}
 use Rattle.fit.specs.Fit.{fitOf}
 use Rattle.fit.specs.Refused.{invalid-refused, many-refused}
-use Rattle.buffers.specs.Buffers.{Given, fitPut, objectivePut, summaryPut}
+use Rattle.buffers.specs.Buffers.{Given, given, fitPut, objectivePut, summaryPut}
+use Rattle.claim.specs.declared.Vetted.{Vetted}
+use Rattle.claim.specs.Claim.{claimFrom}
+use Rattle.claim.specs.Give.{vetRoom, vettedPut, vettedGiven}
+use Rattle.vet.specs.Vet.{vetOf}
 use Rattle.render.specs.Written.{written}
 use Rattle.print.specs.Room.{room}
 use Rattle.text.specs.Answer.{answerText}
@@ -55,6 +59,33 @@ module _ (k n c b p q : ℕ) (t : Bool) (e : t ≡ (eqb b k && (leb n p && leb c
   pub room-counts : c ≤ q
   room-counts = leb-true c q (right (leb n p) (leb c q) both)
 
+-- ---- a test of four lengths that passed
+module _ (b p n c : ℕ) (t : Bool) (e : t ≡ vetRoom b p n c) (h : not t ≡ false) where
+  lengths : ((eqb b 12 && eqb p 5) ≡ true) × ((leb 2 n && leb 2 c) ≡ true)
+  unfolding vetRoom
+  lengths = and-eq-true-iff (eqb b 12 && eqb p 5) (leb 2 n && leb 2 c) .0 (by-not-true t _ e h)
+
+  pub vet-bounds : b ≡ 12
+  vet-bounds = eqb-true b 12 (left (eqb b 12) (eqb p 5) (lengths .0))
+
+  pub vet-claim : p ≡ 5
+  vet-claim = eqb-true p 5 (right (eqb b 12) (eqb p 5) (lengths .0))
+
+  pub vet-numbers : 2 ≤ n
+  vet-numbers = leb-true 2 n (left (leb 2 n) (leb 2 c) (lengths .1))
+
+  pub vet-counts : 2 ≤ c
+  vet-counts = leb-true 2 c (right (leb 2 n) (leb 2 c) (lengths .1))
+
+module _ (v : Vetted) (b p l : List Float) (c : List ℕ) (t : Bool) (e : t ≡ vetRoom (length b) (length p) (length l) (length c)) where
+  pub vet-wrong : not t ≡ true → given 1 l c ≡ vettedGiven v b p l c
+  unfolding vettedGiven
+  vet-wrong h = else _ _ _ _ (by-not-false t _ e h) refl
+
+  pub vet-given : (g : Given) → not t ≡ false → g ≡ vettedPut v l c → g ≡ vettedGiven v b p l c
+  unfolding vettedGiven
+  vet-given g h f = then _ _ _ _ (by-not-true t _ e h) f
+
 -- ---- a run of litters that is too long is refused as an empty one is
 pub handed-on : (r : Request) (ls : List ℕ) (k : ℕ) → k ≡ handedOn (length ls) → fitOf r (take k ls) ≡ fitOf r ls
 handed-on r ls k e =
@@ -68,6 +99,9 @@ fit-is g f r q ls l c p e h = rw (← h, ← e) p
 
 pub objective-is : (g : Given) (o : Objective) (x y : List Float) (ls : List ℕ) (l : List Float) (c : List ℕ) → g ≡ objectivePut o l c → o ≡ objectiveOf x ls → x ≡ y → g ≡ objectivePut (objectiveOf y ls) l c
 objective-is g o x y ls l c p e h = rw (← h, ← e) p
+
+pub vet-is : (g : Given) (r q : Request) (ls : List ℕ) (p l : List Float) (c : List ℕ) → g ≡ vettedPut (vetOf r ls (claimFrom p)) l c → r ≡ q → g ≡ vettedPut (vetOf q ls (claimFrom p)) l c
+vet-is g r q ls p l c e h = rw (← h) e
 
 pub summary-is : (g : Given) (s : Summary) (ls c : List ℕ) → g ≡ summaryPut s c → s ≡ summaryOf ls → g ≡ summaryPut (summaryOf ls) c
 summary-is g s ls c p e = rw (← e) p

@@ -18,6 +18,9 @@ ghost use Rattle.text.specs.Answer.{answerText};
 ghost use Rattle.print.specs.Room.{room};
 ghost use Rattle.intervals.specs.Intervals.{filled, intervalsFilled};
 ghost use Rattle.archive_host.specs.Host.{given as left, rangeGiven, writeGiven, checkGiven, sizeGiven};
+ghost use Rattle.claim.specs.Claim.{claimFrom};
+ghost use Rattle.claim.specs.Give.{vettedGiven};
+ghost use Rattle.vet.specs.Vet.{vetOf};
 ghost use Rattle.objective.specs.Coordinates.{pointOf};
 ghost use Rattle.buffers.specs.Buffers.{given, fitGiven, objectiveGiven, summaryGiven};
 ghost use Rattle.parts.specs.Lent.{lent, told, partIn, finishIn};
@@ -73,6 +76,29 @@ pub extern "C" fn probit_fit(
     }
     let r = request(bounds, tolerance, evaluations, iterations, quadrature);
     buffers::put_fit(fitted(r, litters), numbers, counts)
+}
+
+// Claimed are two means, two variances and the likelihood. Answers the verdict's number: 0 accepted, 1, 2, 5, 6 or 7.
+#[no_mangle]
+pub extern "C" fn probit_vet(
+    bounds: &[f64],
+    tolerance: f64,
+    evaluations: u64,
+    iterations: u64,
+    quadrature: u64,
+    litters: &[u32],
+    claimed: &[f64],
+    numbers: &mut [f64],
+    counts: &mut [u64],
+) -> u64
+    ensures { λ r. ⌜ given r (now (numbers .exit)) (now (counts .exit)) ≡ vettedGiven (vetOf (requestOf (now (bounds .entry)) tolerance evaluations iterations quadrature) (now (litters .entry)) (claimFrom (now (claimed .entry)))) (now (bounds .entry)) (now (claimed .entry)) (now (numbers .entry)) (now (counts .entry)) ⌝ }
+    ensures { λ r. ⌜ (now (bounds .exit) ≡ now (bounds .entry)) × (now (litters .exit) ≡ now (litters .entry)) × (now (claimed .exit) ≡ now (claimed .entry)) ⌝ }
+{
+    if !claim::give::vet_room(bounds.len(), claimed.len(), numbers.len(), counts.len()) {
+        return 1;
+    }
+    let r = request(bounds, tolerance, evaluations, iterations, quadrature);
+    vet_host::vet_in(r, litters, claimed, numbers, counts)
 }
 
 fn point_of(p: &[f64]) -> [f64; 4]
@@ -168,9 +194,9 @@ pub extern "C" fn probit_archive_check(archive: &[u8]) -> u64
 // The interface's version: 1000 times its first number, and its second.
 #[no_mangle]
 pub extern "C" fn probit_version() -> u64
-    ensures { λ r. ⌜ r ≡ 1005 ⌝ }
+    ensures { λ r. ⌜ r ≡ 1006 ⌝ }
 {
-    1005
+    1006
 }
 
 // A request's bytes in, its answer's bytes out: how many, or 0 where `out` has fewer than 512 bytes, and then it is left as it was.

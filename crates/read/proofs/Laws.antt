@@ -6,8 +6,8 @@ use Prim.Native.Nat.{ℕ, suc, _+_, _-_, _*_, _^_, _≤_, _<_}
 use native.Mathlib.Omega.{arith}
 use native.Mathlib.Nat.{add-zero}
 use lib.Dec.{lit<, lit≤}
-use lib.ListN.{length, getD, set, take, drop, drop-of-length-le, length-drop}
-use lib.Seq.{drop-cons, getD-take, take-all}
+use lib.ListN.{length, getD, set, take, drop, length-drop}
+use lib.Seq.{getD-take, take-all}
 use borrow.Author.Tests.{eq-eqb, ne-eqb, lt-ltb, le-ltb, not-true, not-false}
 use Rattle.num.specs.Left.{left-one, left-none}
 use Rattle.form.specs.Form.{first, after, holes}
@@ -16,11 +16,11 @@ use Rattle.form.specs.declared.read.Values.{Values}
 use Rattle.form.specs.Says.{valuesOf, saidOf}
 use Rattle.form.specs.Said.{said, said-inside, said-sixteen}
 use Rattle.form.specs.BothWays.{rendered-read}
-use Rattle.read.specs.BothWays.{litter-plain, litter-below}
+use Rattle.read.specs.BothWays.{litter-plain, litter-below, nothing-left, something-left}
 use Rattle.read.specs.declared.Asking.{Asking}
 use Rattle.read.specs.declared.Lines.{Lines}
 use Rattle.read.specs.declared.Lines.the-variants.{Litters, Departs}
-use Rattle.read.specs.Request.{Asked, asked, form, isEmpty, head, litter, rows, withLitter, readLast, readRows, readRequest}
+use Rattle.read.specs.Request.{Asked, asked, form, head, litter, rows, withLitter, readLast, readRows, readRequest}
 use Rattle.read.specs.Rows.{putLitter, fillRows, fillRequest, heldOf, departedOf, askingOf, rowsSay}
 
 first-taken : (vs : List ℕ) → first (take 2 vs) ≡ getD vs 0 0
@@ -31,12 +31,6 @@ second-taken : (vs : List ℕ) → first (after (take 2 vs)) ≡ getD vs 1 0
 second-taken [] = refl
 second-taken (v ∷ []) = refl
 second-taken (v ∷ u ∷ vs) = refl
-
-nothing-left : (l : List ℕ) (i : ℕ) → length l ≤ i → isEmpty (drop i l) ≡ true
-nothing-left l i h = rw (drop-of-length-le l h)
-
-something-left : (l : List ℕ) (i : ℕ) → i < length l → isEmpty (drop i l) ≡ false
-something-left l i h = rw (drop-cons l i 0 h)
 
 -- what the answers by the three forms say
 says-rows : (text : List ℕ) (at line after : ℕ) (r : Values) → r ≡ valuesOf text after (read rows line (drop at text)) → read rows line (drop at text) ≡ saidOf text 2 r

@@ -1,7 +1,7 @@
 -- Reading a request and spelling it are inverse: a text of at most 8,192 bytes is read as a request exactly if it spells that request.
 use mathlib.Core.Path.{_≡_, refl, sym, ap, _∙_}
 use mathlib.Core.Logic.{_↔_}
-use mathlib.Core.Bool.{true, _&&_, and-eq-true-iff, false≢true}
+use mathlib.Core.Bool.{true, false, _&&_, and-eq-true-iff, false≢true}
 use mathlib.Core.List.{List, [], _∷_, _++_, append-assoc, append-nil}
 use Prim.Native.Nat.{ℕ, zero, suc, _+_, _-_, _*_, _^_, _≤_, _<_, zero-le}
 use native.Mathlib.Nat.{add-zero, zero-add, add-sub-cancel}
@@ -9,7 +9,8 @@ use native.Mathlib.Omega.{arith}
 use borrow.Author.Tests.{ltb-false, eqb-true, eq-eqb, le-ltb}
 use borrow.Table.Steps.{cases}
 use lib.Dec.{T, ltb, eqb, lit≤}
-use lib.ListN.{length, length-append, getD}
+use lib.ListN.{length, length-append, getD, drop, drop-of-length-le}
+use lib.Seq.{drop-cons}
 use Rattle.form.specs.Form.{first, after, render, holes}
 use Rattle.form.specs.Field.{readByte}
 use Rattle.form.specs.Read.{Reading, done, departsAt, readField, read}
@@ -188,9 +189,15 @@ last-right line start n s ws t e b =
     let w = last-values ws n start (r .1) (eqb-true (first ws) n (q .0)) (eqb-true (first (after ws)) start (q .1)) in
     r .0 ∙ ap (λ x. render rows x ++ t) w
 
-is-empty : (t : List ℕ) → isEmpty t ≡ true → t ≡ []
+pub is-empty : (t : List ℕ) → isEmpty t ≡ true → t ≡ []
 is-empty [] h = refl
 is-empty (c ∷ t) h = absurd (false≢true h)
+
+pub nothing-left : (l : List ℕ) (i : ℕ) → length l ≤ i → isEmpty (drop i l) ≡ true
+nothing-left l i h = rw (drop-of-length-le l h)
+
+pub something-left : (l : List ℕ) (i : ℕ) → i < length l → isEmpty (drop i l) ≡ false
+something-left l i h = rw (drop-cons l i 0 h)
 
 last-read-is : (vs : List ℕ) (line start n : ℕ) (s us : List ℕ) (ls : List (List ℕ)) (r : Reading) → read rows line s ≡ r → readLast vs line start n r ≡ asked us ls → RowsAre vs start n s us ls
 unfolding renderLitters

@@ -1,11 +1,11 @@
--- From what was read to what is printed: numbers of bits, the litters in the buffer, and each way an answer is found.
+-- From what was read to what is printed: numbers of bits, and each way an answer is found.
 use mathlib.Core.Path.{_≡_, refl, sym, ap, subst, _∙_}
-use mathlib.Core.Bool.{Bool, true, false, cond, not, true≢false, false≢true}
-use mathlib.Core.List.{List, [], _∷_, _++_, append-assoc, append-nil}
-use Prim.Native.Nat.{ℕ, suc, _+_, _*_, _%_, _^_, _≤_, _<_}
+use mathlib.Core.Bool.{true, false, not, true≢false, false≢true}
+use mathlib.Core.List.{List}
+use Prim.Native.Nat.{ℕ, _+_, _*_, _%_, _^_, _≤_, _<_}
 use native.Mathlib.Omega.{arith}
-use lib.Dec.{T, ltb}
-use lib.ListN.{length, getD, take}
+use lib.Dec.{T}
+use lib.ListN.{length, take}
 use lib.Ieee.{Float, nan, inf, fin, binary64, isNan, nanBits}
 use lib.Ieee.Bits.{nanBits-is, nanBits-above}
 use borrow.Author.Tests.{lt-ltb, le-ltb, not-true, not-false}
@@ -13,13 +13,12 @@ use Rattle.num.specs.F64.{bits}
 use Rattle.fit.specs.Fit.{fitOf}
 use Rattle.read.specs.declared.Asking.{Asking}
 use Rattle.read.specs.Request.{Asked, asked, form, readRequest}
-use Rattle.litters.specs.Litters.{rowIn}
-use Rattle.litters.specs.Kept.{row-length, row-taken}
-use Rattle.read.specs.Rows.{putLitter, putLitters, fillRequest, askingOf}
+use Rattle.read.specs.Rows.{putLitters, fillRequest, askingOf}
 use Rattle.read.specs.Filled.{request-filled}
 use Rattle.print.specs.Answer.{refusalText, fitText}
-use Rattle.text.specs.Answer.{requestIn, littersOf, answerTo, answerText}
+use Rattle.text.specs.Answer.{requestIn, answerTo, answerText}
 use Rattle.text.specs.Answered.{many-answer}
+use Rattle.text.specs.Kept.{kept-litters, length-puts}
 
 -- ---- a number of its bits
 
@@ -35,33 +34,6 @@ module _ (n : ℕ) where
 
   pub some-bits : n % 2 ^ 63 ≤ 0x7ff0_0000_0000_0000 → T (not (nanBits binary64 n))
   some-bits h = rw (nanBits-above binary64 n, le-ltb (0x7ff0_0000_0000_0000) (n % 2 ^ 63) h) tt
-
--- ---- the litters in the buffer
-
-length-put : (b l : List ℕ) (n : ℕ) → length (putLitter b n l) ≡ length b
-unfolding putLitter
-length-put b l n = by (ltb n 128) where
-  by : (t : Bool) → length (cond t (rowIn b n (getD l 1 0) (getD l 2 0) (getD l 0 0)) b) ≡ length b
-  by true = row-length b n (getD l 1 0) (getD l 2 0) (getD l 0 0)
-  by false = refl
-
-put-three : (b l : List ℕ) (n : ℕ) → length b ≡ 384 → n < 128 → take (3 * (n + 1)) (putLitter b n l) ≡ take (3 * n) b ++ (getD l 1 0 ∷ getD l 2 0 ∷ getD l 0 0 ∷ [])
-unfolding putLitter
-put-three b l n s m = rw (lt-ltb n 128 m) (row-taken b n (getD l 1 0) (getD l 2 0) (getD l 0 0) (omega arith))
-
-pub kept-litters : (b : List ℕ) (n : ℕ) (ls : List (List ℕ)) → length b ≡ 384 → n + length ls ≤ 128 → take (3 * (n + length ls)) (putLitters b n ls) ≡ take (3 * n) b ++ littersOf ls
-unfolding putLitters littersOf
-kept-litters b n [] s h = let e : n + 0 ≡ n = omega arith in rw (e, append-nil (take (3 * n) b))
-kept-litters b n (l ∷ ls) s h =
-    let e : n + suc (length ls) ≡ n + 1 + length ls = omega arith in
-    let m : n < 128 = omega arith in
-    let ih = kept-litters (putLitter b n l) (n + 1) ls (length-put b l n ∙ s) (omega arith) in
-    rw e (ih ∙ rw (put-three b l n s m) (append-assoc (take (3 * n) b) (getD l 1 0 ∷ getD l 2 0 ∷ getD l 0 0 ∷ []) (littersOf ls)))
-
-length-puts : (b : List ℕ) (n : ℕ) (ls : List (List ℕ)) → length (putLitters b n ls) ≡ length b
-unfolding putLitters
-length-puts b n [] = refl
-length-puts b n (l ∷ ls) = length-puts (putLitter b n l) (n + 1) ls ∙ length-put b l n
 
 -- ---- the three ways
 

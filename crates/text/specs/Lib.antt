@@ -1,2 +1,3 @@
 pub mod Answer
 pub mod Answered
+pub mod Kept

@@ -16,7 +16,7 @@ ghost use Rattle.text.specs.Answer.{requestIn, answerText};
 ghost use Rattle.print.specs.Room.{room};
 
 // Any NaN's bits give a NaN.
-fn number(bits: u64) -> f64
+pub fn number(bits: u64) -> f64
     ensures { λ r. ⌜ r ≡ F64·bits bits ⌝ }
 {
     if 0x7ff0_0000_0000_0000 < bits % 0x8000_0000_0000_0000 {

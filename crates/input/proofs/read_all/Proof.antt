@@ -1,16 +1,16 @@
--- `read_all` ends after so many reads.
+-- `input::read_all` ends after so many reads.
 use mathlib.Core.Path.{_≡_}
 use Prim.Native.Nat.{_-_}
 use lib.ListN.{length}
 use borrow.Author.Needs.{needs}
-use Rattle.probitfit.proofs.read_all.Statement.{statement}
-use Rattle.probitfit.proofs.read_all.Tie as tie
+use Rattle.input.proofs.read_all.Statement.{statement}
+use Rattle.input.proofs.read_all.Tie as tie
 
 abbrev Inv-loop : tie.InvT-loop
-Inv-loop request₀ at₀ counter₀ request at counter = length request ≡ length request₀
+Inv-loop text₀ at₀ counter₀ text at counter = length text ≡ length text₀
 
 abbrev μ-loop : tie.MeasureT-loop
-μ-loop request₀ at₀ counter₀ request at counter = 8193 - counter
+μ-loop text₀ at₀ counter₀ text at counter = 8193 - counter
 
 pub read-all-spec : {M : Type 1} → statement M
 read-all-spec =

@@ -1,0 +1,4 @@
+pub mod Claimed
+pub mod Claiming
+pub mod Points
+pub mod Spelled
