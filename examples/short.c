@@ -222,6 +222,70 @@ static void archives(int where) {
             one_range(archive, ARCHIVE, ends[i], ends[j], PROBIT_SUMMARY_COUNTS, where);
 }
 
+/* Rows of counts; every fit is over at its start, since the tolerance is above any slope. */
+static const double box[PROBIT_COUNTS_BOUNDS + 1] = {0.5, 2, 1, 0.5, 2, 1, 9};
+static const uint32_t events[] = {1, 0, 2, 7};
+static const double exposures[] = {1, 2, 0.5, 9};
+enum { ROWS = 4 };
+
+static uint64_t first_events(size_t n) {
+    uint64_t sum = 0;
+    for (size_t i = 0; i < n; i++)
+        sum += events[i];
+    return sum;
+}
+
+static void one_counts_fit(size_t b, size_t e, size_t x, size_t n, size_t c, int where) {
+    struct lent lb = lend(box, 8 * b, where), le = lend(events, 4 * e, where), lx = lend(exposures, 8 * x, where), ln = lend(NULL, 8 * n, where), lc = lend(NULL, 8 * c, where);
+    uint64_t end = probit_counts_fit((double *)lb.at, b, 1e9, 10, 10, (uint32_t *)le.at, e, (double *)lx.at, x, (double *)ln.at, n, (uint64_t *)lc.at, c);
+    int fits = b == PROBIT_COUNTS_BOUNDS && n >= PROBIT_COUNTS_FIT_NUMBERS && c >= PROBIT_COUNTS_FIT_COUNTS;
+    int answered = fits && e == x && e >= PROBIT_COUNTS_MIN_ROWS;
+    int good = end == (answered ? PROBIT_ANSWERED : PROBIT_INVALID_INPUT);
+    good &= kept(&ln, fits ? 8 * PROBIT_COUNTS_FIT_NUMBERS : 0) && kept(&lc, fits ? 8 * PROBIT_COUNTS_FIT_COUNTS : 0);
+    good &= (!b || !memcmp(lb.at, box, 8 * b)) && (!e || !memcmp(le.at, events, 4 * e)) && (!x || !memcmp(lx.at, exposures, 8 * x));
+    if (fits) {
+        const uint64_t *k = (uint64_t *)lc.at;
+        const double *v = (double *)ln.at;
+        good &= k[PROBIT_COUNTS_STATUS] == (answered ? PROBIT_CONVERGED : PROBIT_NO_STATUS) && k[PROBIT_COUNTS_EVALUATIONS] == (uint64_t)answered;
+        good &= k[PROBIT_COUNTS_PASSES] == (answered ? first_events(e) : 0) && k[PROBIT_COUNTS_ROWS] == (answered ? e : 0) && !k[PROBIT_COUNTS_REASON];
+        good &= v[PROBIT_COUNTS_SHAPE] == answered && v[PROBIT_COUNTS_RATE] == answered && (v[PROBIT_COUNTS_NLL] > 0) == answered;
+    }
+    expect(good, "probit_counts_fit", b, e, x, n);
+    give_back(&lb), give_back(&le), give_back(&lx), give_back(&ln), give_back(&lc);
+}
+
+static void one_counts_objective(size_t e, size_t x, size_t n, size_t c, int where) {
+    struct lent le = lend(events, 4 * e, where), lx = lend(exposures, 8 * x, where), ln = lend(NULL, 8 * n, where), lc = lend(NULL, 8 * c, where);
+    uint64_t end = probit_counts_objective(1, 1, (uint32_t *)le.at, e, (double *)lx.at, x, (double *)ln.at, n, (uint64_t *)lc.at, c);
+    int fits = n >= PROBIT_COUNTS_OBJECTIVE_NUMBERS && c >= PROBIT_COUNTS_OBJECTIVE_COUNTS, answered = fits && e == x && e;
+    int good = end == (answered ? PROBIT_ANSWERED : PROBIT_INVALID_INPUT);
+    good &= kept(&ln, fits ? 8 * PROBIT_COUNTS_OBJECTIVE_NUMBERS : 0) && kept(&lc, fits ? 8 * PROBIT_COUNTS_OBJECTIVE_COUNTS : 0);
+    good &= (!e || !memcmp(le.at, events, 4 * e)) && (!x || !memcmp(lx.at, exposures, 8 * x));
+    if (fits) {
+        const double *v = (double *)ln.at, *h = v + PROBIT_COUNTS_OBJECTIVE_HESSIAN;
+        good &= ((uint64_t *)lc.at)[PROBIT_COUNTS_OBJECTIVE_PASSES] == (answered ? first_events(e) : 0) && !((uint64_t *)lc.at)[PROBIT_COUNTS_OBJECTIVE_REASON];
+        good &= (v[PROBIT_COUNTS_OBJECTIVE_NLL] > 0) == answered && h[1] == h[2] && (h[1] < 0) == answered && (h[3] > 0) == answered;
+    }
+    expect(good, "probit_counts_objective", e, x, n, c);
+    give_back(&le), give_back(&lx), give_back(&ln), give_back(&lc);
+}
+
+static void tallies(int where) {
+    for (size_t b = 0; b <= PROBIT_COUNTS_BOUNDS + 1; b++)
+        for (size_t n = 0; n <= PROBIT_COUNTS_FIT_NUMBERS + 1; n++)
+            for (size_t c = 0; c <= PROBIT_COUNTS_FIT_COUNTS + 1; c++)
+                one_counts_fit(b, ROWS, ROWS, n, c, where);
+    for (size_t n = 0; n <= PROBIT_COUNTS_OBJECTIVE_NUMBERS + 1; n++)
+        for (size_t c = 0; c <= PROBIT_COUNTS_OBJECTIVE_COUNTS + 1; c++)
+            one_counts_objective(ROWS, ROWS, n, c, where);
+    for (size_t e = 0; e <= ROWS; e++)
+        for (size_t x = 0; x <= ROWS; x++) {
+            one_counts_fit(PROBIT_COUNTS_BOUNDS, e, x, PROBIT_COUNTS_FIT_NUMBERS, PROBIT_COUNTS_FIT_COUNTS, where);
+            one_counts_objective(e, x, PROBIT_COUNTS_OBJECTIVE_NUMBERS, PROBIT_COUNTS_OBJECTIVE_COUNTS, where);
+        }
+    one_counts_fit(0, 0, 0, 0, 0, where), one_counts_objective(0, 0, 0, 0, where);
+}
+
 static void one_text(size_t r, size_t o, int where) {
     struct lent lr = lend(request, r, where), lo = lend(NULL, o, where);
     size_t n = probit_text(lr.at, r, lo.at, o);
@@ -268,17 +332,25 @@ static void too_long(void) {
         expect(probit_objective(point, PROBIT_POINT, none, n, numbers, PROBIT_OBJECTIVE_NUMBERS, counts, PROBIT_OBJECTIVE_COUNTS) == PROBIT_INVALID_INPUT, "probit_objective", n, 0, 0, 0);
         expect(probit_summary(none, n, counts, PROBIT_SUMMARY_COUNTS) == PROBIT_INVALID_INPUT, "probit_summary", n, 0, 0, 0);
     }
+    for (int i = 0; i < 2; i++) {
+        size_t n = i ? bytes / sizeof(double) : PROBIT_COUNTS_MAX_ROWS + 1;
+        expect(probit_counts_fit(box, PROBIT_COUNTS_BOUNDS, 1e9, 10, 10, none, n, none, n, numbers, PROBIT_COUNTS_FIT_NUMBERS, counts, PROBIT_COUNTS_FIT_COUNTS) == PROBIT_INVALID_INPUT, "probit_counts_fit", n, 0, 0, 0);
+        expect(probit_counts_objective(1, 1, none, n, none, n, numbers, PROBIT_COUNTS_OBJECTIVE_NUMBERS, counts, PROBIT_COUNTS_OBJECTIVE_COUNTS) == PROBIT_INVALID_INPUT, "probit_counts_objective", n, 0, 0, 0);
+    }
     expect(probit_archive_write(none, PROBIT_LITTER_NUMBERS * (PROBIT_MAX_ARCHIVE + 1), out, sizeof out) == PROBIT_INVALID_INPUT, "probit_archive_write", PROBIT_MAX_ARCHIVE + 1, 0, 0, 0);
     expect(probit_archive_size(PROBIT_MAX_ARCHIVE) == PROBIT_MAX_ARCHIVE_BYTES && !probit_archive_size(PROBIT_MAX_ARCHIVE + 1) && !probit_archive_size(SIZE_MAX), "probit_archive_size", 0, 0, 0, 0);
     expect(probit_text(none, PROBIT_MAX_REQUEST + 1, out, sizeof out) == 14 && !memcmp(out, "refused 4 0 0\n", 14), "probit_text", bytes, 0, 0, 0);
     munmap(none, bytes);
 }
 
-static double above(double x) {
+/* the neighbours of a number that is not below 0 */
+static double beside(double x, int64_t by) {
     uint64_t n;
-    memcpy(&n, &x, sizeof n), n++, memcpy(&x, &n, sizeof n);
+    memcpy(&n, &x, sizeof n), n += by, memcpy(&x, &n, sizeof n);
     return x;
 }
+static double above(double x) { return beside(x, 1); }
+static double below(double x) { return beside(x, -1); }
 
 /* The fit of the four litters with one number of its bounds, one limit or one litter changed; each fit is over after its first evaluation. */
 enum what { BOUND, EVALUATIONS, ITERATIONS, QUADRATURE, LITTER };
@@ -338,6 +410,53 @@ static void limits(void) {
     }
 }
 
+/* A fit of n rows with their events in the first, over at its start; and the objective there. A limit of 0 evaluations asks for the objective alone. */
+static void one_tall(size_t n, uint32_t sum, uint64_t evaluations, int taken) {
+    static uint32_t many[PROBIT_COUNTS_MAX_ROWS + 1];
+    static double units[PROBIT_COUNTS_MAX_ROWS + 1];
+    double numbers[PROBIT_COUNTS_OBJECTIVE_NUMBERS];
+    uint64_t counts[PROBIT_COUNTS_FIT_COUNTS], end = taken ? PROBIT_ANSWERED : PROBIT_INVALID_INPUT;
+    for (size_t i = 0; i < n; i++)
+        many[i] = 0, units[i] = 1;
+    many[0] = sum;
+    if (evaluations)
+        expect(probit_counts_fit(box, PROBIT_COUNTS_BOUNDS, 1e300, evaluations, 1, many, n, units, n, numbers, PROBIT_COUNTS_FIT_NUMBERS, counts, PROBIT_COUNTS_FIT_COUNTS) == end &&
+                   counts[PROBIT_COUNTS_PASSES] == (taken ? sum : 0), "a limit of probit_counts_fit", n, sum, evaluations, taken);
+    else
+        expect(probit_counts_objective(1, 1, many, n, units, n, numbers, PROBIT_COUNTS_OBJECTIVE_NUMBERS, counts, PROBIT_COUNTS_OBJECTIVE_COUNTS) == end &&
+                   counts[PROBIT_COUNTS_OBJECTIVE_PASSES] == (taken ? sum : 0), "a limit of probit_counts_objective", n, sum, 0, taken);
+}
+
+/* The fit of the four rows with one bound changed, and the objective at it. */
+static void one_box(size_t i, double x, uint64_t evaluations, uint64_t iterations, int taken) {
+    double b[PROBIT_COUNTS_BOUNDS], numbers[PROBIT_COUNTS_OBJECTIVE_NUMBERS];
+    uint64_t counts[PROBIT_COUNTS_FIT_COUNTS], end = taken ? PROBIT_ANSWERED : PROBIT_INVALID_INPUT;
+    memcpy(b, box, sizeof b);
+    b[i] = x;
+    expect(probit_counts_fit(b, PROBIT_COUNTS_BOUNDS, 1e300, evaluations, iterations, events, ROWS, exposures, ROWS, numbers, PROBIT_COUNTS_FIT_NUMBERS, counts, PROBIT_COUNTS_FIT_COUNTS) == end,
+           "a limit of probit_counts_fit", i, evaluations, iterations, taken);
+    if (evaluations == 1 && iterations == 1)
+        expect(probit_counts_objective(i < 3 ? x : 1, i < 3 ? 1 : x, events, ROWS, exposures, ROWS, numbers, PROBIT_COUNTS_OBJECTIVE_NUMBERS, counts, PROBIT_COUNTS_OBJECTIVE_COUNTS) == end,
+               "a limit of probit_counts_objective", i, taken, 0, 0);
+}
+
+static void limits_of_counts(void) {
+    static const uint64_t most[] = {PROBIT_COUNTS_MAX_EVALUATIONS, PROBIT_COUNTS_MAX_ITERATIONS};
+    one_box(0, PROBIT_COUNTS_MIN_SHAPE, 1, 1, 1), one_box(0, below(PROBIT_COUNTS_MIN_SHAPE), 1, 1, 0);
+    one_box(1, PROBIT_COUNTS_MAX_SHAPE, 1, 1, 1), one_box(1, above(PROBIT_COUNTS_MAX_SHAPE), 1, 1, 0);
+    one_box(3, above(0), 1, 1, 1), one_box(3, 0, 1, 1, 0);
+    one_box(0, 0.5, 0, 1, 0), one_box(0, 0.5, 1, 0, 0);
+    one_box(0, 0.5, most[0], 1, 1), one_box(0, 0.5, most[0] + 1, 1, 0), one_box(0, 0.5, 1, most[1], 1), one_box(0, 0.5, 1, most[1] + 1, 0);
+    for (uint64_t fit = 0; fit < 2; fit++) {
+        size_t least = fit ? PROBIT_COUNTS_MIN_ROWS : 1;
+        one_tall(least - 1, 0, fit, 0), one_tall(least, 3, fit, 1);
+        one_tall(PROBIT_COUNTS_MAX_ROWS, 3, fit, 1), one_tall(PROBIT_COUNTS_MAX_ROWS + 1, 3, fit, 0);
+        one_tall(2, PROBIT_COUNTS_MAX_EVENTS, fit, 1), one_tall(2, PROBIT_COUNTS_MAX_EVENTS + 1, fit, 0);
+    }
+    one_tall(2, PROBIT_COUNTS_MAX_PRODUCT / 10000 - 2, 10000, 1), one_tall(2, PROBIT_COUNTS_MAX_PRODUCT / 10000 - 1, 10000, 0);
+    one_tall(2, (PROBIT_COUNTS_MAX_PRODUCT + 1) / 21 - 2, 21, 0); /* one above */
+}
+
 int main(int argc, char **argv) {
     heap = argc == 2 && !strcmp(argv[1], "heap");
     for (int where = 0; where < 3; where++) {
@@ -367,10 +486,12 @@ int main(int argc, char **argv) {
             one_text(r, PROBIT_TEXT, where);
         intervals(where);
         archives(where);
+        tallies(where);
         one_fit(0, 0, 0, 0, where), one_objective(0, 0, 0, 0, where), one_vet(0, 0, 0, 0, 0, where), one_summary(0, 0, where), one_text(0, 0, where);
     }
     most_litters();
     limits();
+    limits_of_counts();
     too_long();
     printf("short: %ld calls, %ld wrong\n", calls, wrong);
     return wrong != 0;

@@ -1,4 +1,5 @@
-/* The litter fit for hosts: a probit-normal binomial model of two groups. docs/EMBEDDING.md says how to build, link and read.
+/* The litter fit for hosts: a probit-normal binomial model of two groups; and a Gamma-Poisson model of events per exposure. docs/EMBEDDING.md says how to
+ * build, link and read.
  *
  * A slice is a pointer and the number of its elements, in that order. The pointer is aligned as C has it for its type; the elements are there for
  * the whole call; no output overlaps an input or the other output. Nothing before or after the given elements is read or written.
@@ -23,7 +24,7 @@ extern "C" {
 /* ---- The version of this interface: 1000 times the first number, and the second. The second rises when something is added, the first when something
  * here changes or goes. A library fits a host if its first number is the header's and its version is no less:
  *   probit_version() / 1000 == PROBIT_VERSION / 1000 && probit_version() >= PROBIT_VERSION */
-#define PROBIT_VERSION 1006
+#define PROBIT_VERSION 1007
 
 uint64_t probit_version(void);
 
@@ -46,7 +47,7 @@ uint64_t probit_version(void);
 
 enum { PROBIT_AFFECTED, PROBIT_PUPS, PROBIT_GROUP };
 
-/* ---- How a call ended: the value of probit_fit, probit_objective, probit_summary and probit_vet, and the number after `refused` in an answer's text.
+/* ---- How a call ended: the value of probit_fit, probit_objective, probit_summary, probit_vet and the two of counts, and the number after `refused` in an answer's text.
  * probit_names.h has these, the reasons and the statuses in words, for a log. */
 enum {
     PROBIT_ANSWERED = 0,
@@ -68,7 +69,7 @@ enum {
     PROBIT_TAIL_NOT_BOUNDED = 3, /* by a number at most its goal */
     PROBIT_NOT_FINITE = 4, /* an integral or a derivative, or the total is not positive */
     PROBIT_REFINEMENT_NOT_CONVERGED = 5,
-    PROBIT_TOTAL_NOT_FINITE = 6 /* of no litter: an entry of the likelihood, the gradient or the Hessian, with all litters summed */
+    PROBIT_TOTAL_NOT_FINITE = 6 /* of no litter or row: an entry of the likelihood, the gradient or the Hessian, with all of them summed */
 };
 
 /* ---- How an answered fit stopped; a refusal has PROBIT_NO_STATUS. */
@@ -232,6 +233,63 @@ uint64_t probit_archive_range(const uint8_t *archive, size_t archive_len, size_t
 
 /* 1 where the archive's shape, every litter and all totals are right, else 0. Of such an archive every range is what probit_summary would count. */
 uint64_t probit_archive_check(const uint8_t *archive, size_t archive_len);
+
+/* ---- Counts per exposure: events, each row's over an exposure of its own, as incidents over months of service. A row's rate is drawn from a Gamma
+ * distribution with this shape and rate, its events are Poisson with that rate times the exposure. The mean of the rates is shape / rate.
+ * The rows' rates are integrated out: what is left is a negative binomial of size shape and mean exposure * shape / rate.
+ *
+ * events, exposures: as many of each, a row's at one position. Exposures and rates are finite and above 0, all in one unit: which, the host knows.
+ * A pass is one turn of the inner loop, one for each event of each row at each evaluation of the objective: so events times evaluations.
+ * Refusals put zeros, but for the passes made and the reason. PROBIT_INVALID_INPUT: what is asked here does not hold, and no pass was made; with another
+ * number of exposures than events too. PROBIT_DOMAIN with PROBIT_TOTAL_NOT_FINITE: the likelihood or a derivative is not finite.
+ * Where bounds_len is not PROBIT_COUNTS_BOUNDS, or a buffer is too short, the value is PROBIT_INVALID_INPUT and nothing is written.
+ * Elements after the places are left as they were. */
+#define PROBIT_COUNTS_MIN_SHAPE 1e-8
+#define PROBIT_COUNTS_MAX_SHAPE 1e6
+#define PROBIT_COUNTS_MIN_ROWS 2 /* of a fit; the objective takes one row */
+#define PROBIT_COUNTS_MAX_ROWS 4096
+#define PROBIT_COUNTS_MAX_EVENTS 1000000 /* in all rows together */
+#define PROBIT_COUNTS_MAX_EVALUATIONS 10000
+#define PROBIT_COUNTS_MAX_ITERATIONS 10000
+#define PROBIT_COUNTS_MAX_PRODUCT 20000000 /* of a fit: events and rows together, times its limit of evaluations; its passes are no more */
+
+/* The fit.
+ *
+ * bounds: PROBIT_COUNTS_BOUNDS numbers: low, high and start of the shape, then of the rate. low < high, and so their logarithms; low <= start <= high.
+ *   The shape's lie from PROBIT_COUNTS_MIN_SHAPE to PROBIT_COUNTS_MAX_SHAPE.
+ * tolerance: of the projected gradient's norm, in log(shape) and log(rate); finite and above 0.
+ * evaluations, iterations: of the objective and of the descent. Meeting one ends the fit with a status, and the answer so far. */
+#define PROBIT_COUNTS_BOUNDS 6
+#define PROBIT_COUNTS_FIT_NUMBERS 4
+#define PROBIT_COUNTS_FIT_COUNTS 8
+
+/* places in numbers, and in counts; a mark is 1 where that coordinate lies on one of its bounds, else 0 */
+enum { PROBIT_COUNTS_SHAPE, PROBIT_COUNTS_RATE, PROBIT_COUNTS_NLL, PROBIT_COUNTS_NORM };
+enum {
+    PROBIT_COUNTS_STATUS,
+    PROBIT_COUNTS_EVALUATIONS, /* of the objective */
+    PROBIT_COUNTS_ITERATIONS,
+    PROBIT_COUNTS_PASSES,
+    PROBIT_COUNTS_ROWS,
+    PROBIT_COUNTS_REASON,
+    PROBIT_COUNTS_SHAPE_ON_BOUND,
+    PROBIT_COUNTS_RATE_ON_BOUND
+};
+
+uint64_t probit_counts_fit(const double *bounds, size_t bounds_len, double tolerance, uint64_t evaluations, uint64_t iterations, const uint32_t *events,
+                           size_t events_len, const double *exposures, size_t exposures_len, double *numbers, size_t numbers_len, uint64_t *counts,
+                           size_t counts_len);
+
+/* The objective at one point: the negative log-likelihood, its gradient (2) and Hessian (4, by rows) in log(shape) and log(rate). */
+#define PROBIT_COUNTS_OBJECTIVE_NUMBERS 7
+#define PROBIT_COUNTS_OBJECTIVE_COUNTS 2
+
+/* places in numbers, the first of each, and in counts */
+enum { PROBIT_COUNTS_OBJECTIVE_NLL = 0, PROBIT_COUNTS_OBJECTIVE_GRADIENT = 1, PROBIT_COUNTS_OBJECTIVE_HESSIAN = 3 };
+enum { PROBIT_COUNTS_OBJECTIVE_PASSES = 0, PROBIT_COUNTS_OBJECTIVE_REASON = 1 };
+
+uint64_t probit_counts_objective(double shape, double rate, const uint32_t *events, size_t events_len, const double *exposures, size_t exposures_len,
+                                 double *numbers, size_t numbers_len, uint64_t *counts, size_t counts_len);
 
 /* ---- The text entry: the bytes that the program probitfit reads, and those that it prints (docs/FORMAT.md).
  * A request begins

@@ -13,7 +13,7 @@
 #include <sys/wait.h>
 #include <unistd.h>
 
-double probit_exp(double), probit_log(double), probit_erfc(double), probit_lgamma(double), probit_cos(double), probit_sqrt(double);
+double probit_exp(double), probit_log(double), probit_log1p(double), probit_erfc(double), probit_lgamma(double), probit_cos(double), probit_sqrt(double);
 double probit_hypot(double, double);
 
 static uint64_t bits(double x) { uint64_t b; memcpy(&b, &x, 8); return b; }
@@ -86,6 +86,30 @@ static void log_ends(long i, long n) { long k = listed(i, n, 64L * 1001); A = st
 static void log_powers(long i, long n) { long k = listed(i, n, 2098L * 7); A = step(ldexp(1, (int)(k / 7) - 1074), k % 7 - 3); }
 static void log_subnormal(long i, long n) { (void)i, (void)n; A = subnormal(); }
 
+static void log1p_every(long i, long n) { (void)i, (void)n; do A = whatever(); while (A == 0 || A <= -1); }
+static void log1p_scaled(long i, long n) { (void)i, (void)n; A = sign(scaled(-60, -1)); }
+static void log1p_unit(long i, long n) { (void)i, (void)n; do A = between(-1, 1); while (A == 0 || A == -1); }
+static void log1p_above(long i, long n) { (void)i, (void)n; A = scaled(0, 60); }
+static void log1p_exp(long i, long n) { (void)i, (void)n; A = probit_exp(between(-40, 40)); }
+static void log1p_far_exp(long i, long n) { (void)i, (void)n; A = probit_exp(between(-745, 709.7)); }
+static void log1p_bottom(long i, long n) { (void)i, (void)n; A = -1 + scaled(-53, -2); }
+static void log1p_next(long i, long n) { A = step(-1, -1 - listed(i, n, 1L << 17)); }
+// 1 + x is the middle of two f64, or next to it: its rounding loses most
+static void log1p_middles(long i, long n) {
+    long k = listed(i, n, 2000L * 2 * 101);
+    A = step((k % 2 ? 1 : -1) * ((double)(k / 2 % 2000) + 0.5) * (k % 2 ? 0x1p-52 : 0x1p-53), k / 4000 - 50);
+}
+static void log1p_powers(long i, long n) {
+    long k = listed(i, n, 120L * 2 * 1001);
+    int e = (int)(k / 2 % 120) - 60;
+    A = step(k % 2 && e < 0 ? -ldexp(1, e) : ldexp(1, e), k / 240 - 500);
+}
+static void log1p_ends(long i, long n) {
+    long k = listed(i, n, 64L * 70 * 101), j = k % 64, e = k / 64 % 70 - 10;
+    A = step(number(OFF + ((uint64_t)j << 46) + ((uint64_t)e << 52)) - 1, k / 4480 - 50);
+}
+static void log1p_subnormal(long i, long n) { (void)i, (void)n; A = sign(subnormal()); }
+
 static void erfc_every(long i, long n) { (void)i, (void)n; A = whatever(); }
 static void erfc_scaled(long i, long n) { (void)i, (void)n; A = sign(scaled(-70, -1)); }
 static void erfc_rows(long i, long n) { (void)i, (void)n; A = between(0, 5.72); }
@@ -154,6 +178,7 @@ static void hypot_zero(long i, long n) {
 }
 
 static void lgamma_whole(long i, long n) { (void)n; A = (double)(i + 1); }
+static void lgamma_million(long i, long n) { A = (double)(1002 + listed(i, n, 999000)); }
 static void cos_points(long i, long n) { (void)n; A = (0x1.921fb54442d18p+1 * ((double)(i + 1) - 0.25)) / (16.0 + 0.5); }
 
 static mpfr_t X, Z, Y, D;
@@ -165,9 +190,10 @@ struct function {
     double limit, limit_below;
     bool top;  // plus infinity exactly where the exact result is 2^1024 or more
 };
-// document 01 gives hypot no limit below the normal range; it is held to 2 there too
+// document 01 gives hypot no limit below the normal range; it is held to 2 there too, and log1p to the nearest
 static const struct function EXP = {"exp", probit_exp, NULL, mpfr_exp, 2, 4, true};
 static const struct function LOG = {"log", probit_log, NULL, mpfr_log, 2, 0, false};
+static const struct function LOG1P = {"log1p", probit_log1p, NULL, mpfr_log1p, 2, 0.5, false};
 static const struct function ERFC = {"erfc", probit_erfc, NULL, mpfr_erfc, 4, 4, false};
 static const struct function HYPOT = {"hypot", NULL, probit_hypot, NULL, 2, 2, false};
 static const struct function LGAMMA = {"lgamma", probit_lgamma, NULL, mpfr_lngamma, 4, 0, false};
@@ -236,6 +262,20 @@ static const struct range ranges[] = {
 
     // last, since a range's points are drawn by its place here
     {&ERFC, "next to the largest found", erfc_hard, 404, 404, N | L},
+
+    {&LOG1P, "every exponent, above -1", log1p_every, 20000, 2000000, N | L},
+    {&LOG1P, "2^-60 to 1, both signs", log1p_scaled, 20000, 2000000, N},
+    {&LOG1P, "-1 to 1", log1p_unit, 20000, 2000000, N},
+    {&LOG1P, "1 to 2^61", log1p_above, 10000, 500000, N},
+    {&LOG1P, "exp of -40 to 40", log1p_exp, 20000, 1500000, N},
+    {&LOG1P, "exp of -745 to 709.7", log1p_far_exp, 10000, 500000, N | L},
+    {&LOG1P, "-1 plus 2^-53 to 1/2", log1p_bottom, 10000, 500000, N},
+    {&LOG1P, "2^17 next to -1", log1p_next, 10000, 1L << 17, N},
+    {&LOG1P, "1 + x next to middles, up to 2000 from 1", log1p_middles, 20000, 2000L * 2 * 101, N},
+    {&LOG1P, "next to 2^-60 to 2^59, both signs", log1p_powers, 20000, 120L * 2 * 1001, N},
+    {&LOG1P, "1 + x next to row ends, 2^-10 to 2^59", log1p_ends, 20000, 64L * 70 * 101, N},
+    {&LOG1P, "subnormal, both signs", log1p_subnormal, 5000, 200000, L},
+    {&LGAMMA, "whole 1002 to 1000001", lgamma_million, 5000, 999000, N},
 };
 
 // The error in units of the last place of the exact result in Y; below the normal range in units of 2^-1074.
@@ -355,6 +395,7 @@ static double root_middle(long i) {
     long double m = (long double)(any() >> 11 | UINT64_C(1) << 52) + 0.5L;
     return random_step(ldexp((double)(m * m), 2 * ((int)below(800) - 400)), 1);
 }
+static double below_minus_one(long i) { double x = i & 1 ? -scaled(0, 60) : number(any() | UINT64_C(1) << 63); return x < -1 ? x : step(-1, 1 + i); }
 static double negative(long i) { (void)i; double x = any() & 7 ? fabs(whatever()) : subnormal(); return x == 0 ? -1 : -x; }
 
 // For sqrt bit for bit against the hardware; for a negative argument NaN.
@@ -388,6 +429,8 @@ static void exact_values(void) {
     VALUE(exp(-INFINITY), 0.0); VALUE(exp(INFINITY), INFINITY);
     VALUE(log(1.0), 0.0); VALUE(log(0.0), -INFINITY); VALUE(log(-0.0), -INFINITY);
     VALUE(log(-1.0), NAN); VALUE(log(-0x1p-1074), NAN); VALUE(log(-INFINITY), NAN); VALUE(log(INFINITY), INFINITY);
+    VALUE(log1p(0.0), 0.0); VALUE(log1p(-0.0), -0.0); VALUE(log1p(-1.0), -INFINITY); VALUE(log1p(INFINITY), INFINITY);
+    VALUE(log1p(-0x1.0000000000001p+0), NAN); VALUE(log1p(-2.0), NAN); VALUE(log1p(-INFINITY), NAN);
     VALUE(erfc(0.0), 1.0); VALUE(erfc(-0.0), 1.0); VALUE(erfc(-INFINITY), 2.0); VALUE(erfc(INFINITY), 0.0);
     VALUE(lgamma(1.0), 0.0); VALUE(lgamma(2.0), 0.0);
     VALUE(sqrt(0.0), 0.0); VALUE(sqrt(-0.0), -0.0); VALUE(sqrt(4.0), 2.0); VALUE(sqrt(0x1p-1074), 0x1p-537);
@@ -400,7 +443,7 @@ static void exact_values(void) {
     static const double beside[] = {0.0, -0.0, 1.0, -1.0, 0x1p-1074, 0x1p-500, 0x1p600, -0x1.fffffffffffffp+1023};
     for (size_t i = 0; i < sizeof nans / sizeof *nans; i++) {
         double nan = number(nans[i]);
-        VALUE(exp(nan), NAN); VALUE(log(nan), NAN); VALUE(erfc(nan), NAN); VALUE(lgamma(nan), NAN); VALUE(cos(nan), NAN); VALUE(sqrt(nan), NAN);
+        VALUE(exp(nan), NAN); VALUE(log(nan), NAN); VALUE(log1p(nan), NAN); VALUE(erfc(nan), NAN); VALUE(lgamma(nan), NAN); VALUE(cos(nan), NAN); VALUE(sqrt(nan), NAN);
         VALUE(hypot(nan, nan), NAN);
         for (size_t j = 0; j < sizeof beside / sizeof *beside; j++) {
             double x = beside[j];
@@ -436,6 +479,7 @@ int main(int argc, char **argv) {
     count("sqrt", "next to squares of middles of two f64", probit_sqrt, hardware_root, root_middle, 200000 / k);
     count("sqrt", "negative, every exponent", probit_sqrt, NULL, negative, 100000 / k);
     count("log", "negative, every exponent", probit_log, NULL, negative, 100000 / k);
+    count("log1p", "below -1", probit_log1p, NULL, below_minus_one, 100000 / k);
     exact_values();
     printf("accuracy: %ld checks, %ld failed\n", checks, failed);
     return failed > 0;

@@ -225,6 +225,16 @@ def hypot_points():
     return xs
 
 
+def log1p_points():
+    rows = [number(LOG_OFF + (j << 46) + (e << 52)) - 1 for j in range(64) for e in range(-52, 100)]
+    small = both(draw.uniform(1, 2) * 2.0 ** draw.randint(-60, -1) for _ in range(10000))
+    middles = [beside((k + 0.5) * 2.0**-52, 2) for k in range(2000)] + [beside(-(k + 0.5) * 2.0**-53, 2) for k in range(2000)]
+    fed = [math.exp(draw.uniform(-745, 709.7)) for _ in range(10000)]
+    wide = [draw.uniform(1, 2) * 2.0 ** draw.randint(0, 1022) for _ in range(10000)]
+    ends = [-1.0] + both(2.0**e for e in range(-56, -49)) + [2.0**e for e in range(51, 56)]
+    return points(rows + small + middles + fed + wide, ends, [(-1, 1), (-1, -0.5), (0, 1000)])
+
+
 def library():
     path = os.environ.get("PROBIT_LIB")
     if path and not pathlib.Path(path).is_file():
@@ -254,6 +264,7 @@ POINTS_OF = {
     "cos": cos_points,
     "sqrt": sqrt_points,
     "hypot": hypot_points,
+    "log1p": log1p_points,
 }
 
 

@@ -71,6 +71,22 @@ static void writes(void) { probit_archive_write(past, 3 * kept, archive, sizeof 
 static void range(void) { probit_archive_range(archive, probit_archive_size(kept), 63, kept - 1, counts, PROBIT_SUMMARY_COUNTS); }
 static void check(void) { probit_archive_check(archive, probit_archive_size(kept)); }
 
+/* events of the study's litters, their pups as exposures; a fit to its end, and the objective at its start */
+static const double box[PROBIT_COUNTS_BOUNDS] = {1e-3, 1e3, 1, 1e-3, 1e3, 1};
+static uint32_t events[MOST];
+static double exposures[MOST];
+
+static void tally(void) {
+    for (size_t i = 0; i < litters_len / 3; i++) events[i] = litters[3 * i + PROBIT_AFFECTED], exposures[i] = litters[3 * i + PROBIT_PUPS];
+}
+
+static void counts_fit(void) {
+    if (probit_counts_fit(box, PROBIT_COUNTS_BOUNDS, 1e-6, 200, 200, events, litters_len / 3, exposures, litters_len / 3, numbers, PROBIT_COUNTS_FIT_NUMBERS, counts, PROBIT_COUNTS_FIT_COUNTS)) exit(2);
+}
+static void counts_objective(void) {
+    if (probit_counts_objective(1, 1, events, litters_len / 3, exposures, litters_len / 3, numbers, PROBIT_COUNTS_OBJECTIVE_NUMBERS, counts, PROBIT_COUNTS_OBJECTIVE_COUNTS)) exit(2);
+}
+
 static size_t taken(void (*f)(void)) {
     size_t clean = 0;
     memset(stack, PAINT, sizeof stack);
@@ -127,7 +143,7 @@ static const struct {
     void (*f)(void);
 } functions[] = {{"probit_fit", fit}, {"probit_objective", objective}, {"probit_vet", vet}, {"probit_summary", summary}, {"probit_text", text},
                  {"probit_part", part}, {"probit_finish", finish}, {"probit_answer", answer},
-                 {"probit_intervals", intervals},
+                 {"probit_intervals", intervals}, {"probit_counts_fit", counts_fit}, {"probit_counts_objective", counts_objective},
                  {"probit_archive_size", size}, {"probit_archive_write", writes}, {"probit_archive_range", range}, {"probit_archive_check", check}};
 
 static const struct {
@@ -148,6 +164,7 @@ int main(void) {
             study(studies[j].n, studies[j].mean, studies[j].sd, studies[j].limit);
             begin();
             keep();
+            tally();
             if (functions[i].f == finish || functions[i].f == answer)
                 part();
             n = taken(functions[i].f);
@@ -157,7 +174,7 @@ int main(void) {
             }
             worst = n > worst ? n : worst;
         }
-        printf("%-20s %6zu bytes\n", functions[i].name, worst);
+        printf("%-23s %6zu bytes\n", functions[i].name, worst);
         most = worst > most ? worst : most;
     }
     printf("stack: %zu bytes at most, %d are said to be enough\n", most, SAID);

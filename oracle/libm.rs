@@ -13,6 +13,7 @@ macro_rules! bind {
 bind! {
     exp probit_exp(x),
     log probit_log(x),
+    log1p probit_log1p(x),
     erfc probit_erfc(x),
     lgamma probit_lgamma(x),
     cos probit_cos(x),

@@ -147,6 +147,10 @@ unraised (ByDecrease s ∷ ts) nll h = unraised ts nll h
 unraised (ByRounding a ∷ ts) nll h = absurd (omega arith)
 unraised (CutOff ∷ ts) nll h = unraised ts nll h
 
+-- the bound of equal numbers and equal trials
+pub carried : {a b c d : Float} {ts us : List Trial} → a ≡ b → ts ≡ us → c ≡ d → le b (raisedBy us d) ≡ true → le a (raisedBy ts c) ≡ true
+carried {b = b} {c = c} {ts = ts} {us = us} e f g k = ap (λ y. le y (raisedBy ts c)) e ∙ (ap (λ ws. le b (raisedBy ws c)) f ∙ (ap (λ y. le b (raisedBy us y)) g ∙ k))
+
 either-not : (a b : Bool) → (a || b) ≡ false → a ≡ false
 either-not true b h = h
 either-not false b h = refl

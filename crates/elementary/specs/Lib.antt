@@ -1,6 +1,7 @@
 pub mod Series
 pub mod Exp
 pub mod Log
+pub mod Log1p
 pub mod Erfc
 pub mod Lgamma
 pub mod Cos

@@ -2,6 +2,7 @@
 ghost use mathlib.Core.Path.{_≡_};
 ghost use Rattle.elementary.specs.Exp.{expOf};
 ghost use Rattle.elementary.specs.Log.{logOf};
+ghost use Rattle.elementary.specs.Log1p.{log1pOf};
 ghost use Rattle.elementary.specs.Erfc.{erfcOf};
 ghost use Rattle.elementary.specs.Lgamma.{lgammaOf};
 ghost use Rattle.elementary.specs.Cos.{cosOf};
@@ -21,6 +22,13 @@ pub extern "C" fn probit_log(x: f64) -> f64
     ensures { λ r. ⌜ r ≡ logOf x ⌝ }
 {
     crate::log::log(x)
+}
+
+#[no_mangle]
+pub extern "C" fn probit_log1p(x: f64) -> f64
+    ensures { λ r. ⌜ r ≡ log1pOf x ⌝ }
+{
+    crate::log1p::log1p(x)
 }
 
 #[no_mangle]

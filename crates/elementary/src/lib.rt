@@ -6,4 +6,5 @@ pub mod exports;
 pub mod hypot;
 pub mod lgamma;
 pub mod log;
+pub mod log1p;
 mod log_parts;

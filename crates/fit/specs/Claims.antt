@@ -21,9 +21,8 @@ use Rattle.objective.specs.Litters.{countOf}
 use Rattle.objective.specs.Objective.{objective, objectiveOf}
 use Rattle.objective.specs.Finite.{Known, objective-known}
 use Rattle.objective.specs.Bound.{objective-in-full}
-use Rattle.descent.specs.declared.Trial.{Trial}
 use Rattle.descent.specs.declared.Trial.the-variants.{ByRounding}
-use Rattle.descent.specs.Claims.{roundingsOf, raisedBy, Among, Descends, Rounded, unraised, led-evaluated, rounding-step, none-among, at-most-raised, descends-by-trials}
+use Rattle.descent.specs.Claims.{roundingsOf, raisedBy, Among, Descends, Rounded, unraised, carried, led-evaluated, rounding-step, none-among, at-most-raised, descends-by-trials}
 use Rattle.descent.specs.Descent.{Asked, Descended}
 use Rattle.descent.specs.Points.{Place, place, point-value, of-driven, of-refused}
 use Rattle.request.specs.declared.Request.{Request}
@@ -38,10 +37,6 @@ use Rattle.fit.specs.Driven.{descentOf, trialsOf, pointsOf, Ends, ends}
 -- the starting likelihood: the objective's, called alone at the start
 abbrev pub startingOf : Request → List ℕ → Float
 startingOf r ls = objectiveOf (startOf r) ls .nll
-
--- the bound of equal numbers and equal trials
-carried : {a b c d : Float} {ts us : List Trial} → a ≡ b → ts ≡ us → c ≡ d → le b (raisedBy us d) ≡ true → le a (raisedBy ts c) ≡ true
-carried {b = b} {c = c} {ts = ts} {us = us} e f g k = ap (λ y. le y (raisedBy ts c)) e ∙ (ap (λ ws. le b (raisedBy ws c)) f ∙ (ap (λ y. le b (raisedBy us y)) g ∙ k))
 
 module _ (r : Request) (ls : List ℕ) where
   -- a point at which the fit had its objective evaluated, and its value there

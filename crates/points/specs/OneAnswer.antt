@@ -13,6 +13,7 @@ use Rattle.tables.specs.Log.{logRow}
 use Rattle.tables.specs.Erfc.{erfcRow}
 use Rattle.elementary.specs.Exp.{expOf, expLow}
 use Rattle.elementary.specs.Log.{logOf, logParts}
+use Rattle.elementary.specs.Log1p.{log1pOf}
 use Rattle.elementary.specs.Erfc.{erfcOf, erfcPos}
 use Rattle.elementary.specs.Lgamma.{lgammaOf}
 use Rattle.elementary.specs.Cos.{cosOf}
@@ -45,6 +46,13 @@ use Rattle.archive_range.specs.Reads.{runningOf}
 use Rattle.archive_range.specs.Range.{differenceOf, rangeOf as Archive·rangeOf}
 use Rattle.archive_check.specs.Check.{checkOf}
 use Rattle.archive_write.specs.Archive.{writtenOf}
+use Rattle.planar.specs.Planar.{among, widen}
+use Rattle.exposure.specs.Rows.{positive, eventsOf, validRows}
+use Rattle.exposure.specs.Request.{validShape, productOf, admits as Exposure·admits}
+use Rattle.counts.specs.Share.{withRow}
+use Rattle.counts.specs.Objective.{valueOf as Counts·valueOf, objectiveOf as Counts·objectiveOf}
+use Rattle.counts_fit.specs.Fit.{fitOf as Counts·fitOf}
+use Rattle.counts_fit.specs.Among.{drivenOf as Counts·drivenOf}
 use Rattle.summary.specs.Summary.{extremeOf, noCounts, plusOf, litterCountsOf, countsOf, summaryOf}
 use Rattle.request.specs.declared.Request.{Request}
 use Rattle.request.specs.Request.{upTo, admits, startOf, lowOf, highOf}
@@ -111,8 +119,8 @@ pub of-num : One1 absOf × One1 isFinite × One1 allFinite × One2 maxOf × One2
 of-num = (one1 _, one1 _, one1 _, one2 _, one2 _, one3 _, one2 _, one1 _, one2 _, one0 _, one0 _)
 
 -- the root's statement by squares has a theorem of its own, `one-root`
-pub of-elementary : One1 sqrtOf × One1 expRow × One1 logRow × One1 erfcRow × One1 expOf × One2 expLow × One1 logOf × One2 logParts × One1 erfcOf × One1 erfcPos × One1 lgammaOf × One1 cosOf × One2 hypotOf × One1 logFactorialOf
-of-elementary = (one1 _, one1 _, one1 _, one1 _, one1 _, one2 _, one1 _, one2 _, one1 _, one1 _, one1 _, one1 _, one2 _, one1 _)
+pub of-elementary : One1 sqrtOf × One1 expRow × One1 logRow × One1 erfcRow × One1 expOf × One2 expLow × One1 logOf × One2 logParts × One1 log1pOf × One1 erfcOf × One1 erfcPos × One1 lgammaOf × One1 cosOf × One2 hypotOf × One1 logFactorialOf
+of-elementary = (one1 _, one1 _, one1 _, one1 _, one1 _, one2 _, one1 _, one2 _, one1 _, one1 _, one1 _, one1 _, one1 _, one2 _, one1 _)
 
 -- the decimal's statement by whole numbers has `one-decimal`
 pub of-decimal : One3 (λ (minus : Bool) (digits places : ℕ). round binary64 minus digits (10 ^ places))
@@ -164,6 +172,13 @@ of-archive = (one1 _, one1 _, one1 _, one2 _, one2 _, one3 _, one1 _, one2 _)
 
 pub of-claim : One1 Claim·numberOf × One1 Claim·reasonOf × One1 pointIn × One3 boxed × One2 Claim·refusalOf × One6 Claim·judgedOf × One4 vetRoom × One3 vetOf
 of-claim = (one1 _, one1 _, one1 _, one3 _, one2 _, one6 _, one4 _, one3 _)
+
+-- of counts per exposure: the rows and their checks, the objective, the fit
+pub of-exposure : One2 among × One1 widen × One1 positive × One1 eventsOf × One2 validRows × One1 validShape × One3 productOf × One3 Exposure·admits
+of-exposure = (one2 _, one1 _, one1 _, one1 _, one2 _, one1 _, one3 _, one3 _)
+
+pub of-counts : One5 withRow × One4 Counts·valueOf × One4 Counts·objectiveOf × One4 Counts·drivenOf × One3 Counts·fitOf
+of-counts = (one5 _, one4 _, one4 _, one4 _, one3 _)
 
 -- of lent litters
 pub of-records : One2 (λ (r : Request) (ls : List Litter). fitOf r (numbersOf ls)) × One2 (λ (x : List Float) (ls : List Litter). objectiveOf x (numbersOf ls)) × One1 (λ (ls : List Litter). summaryOf (numbersOf ls))

@@ -21,6 +21,9 @@ ghost use Rattle.archive_host.specs.Host.{given as left, rangeGiven, writeGiven
 ghost use Rattle.claim.specs.Claim.{claimFrom};
 ghost use Rattle.claim.specs.Give.{vettedGiven};
 ghost use Rattle.vet.specs.Vet.{vetOf};
+ghost use Rattle.counts.specs.Objective.{objectiveOf as countsObjective};
+ghost use Rattle.counts_fit.specs.Fit.{fitOf as countsFit};
+ghost use Rattle.counts_host.specs.Host.{given as lentBack, objectiveGiven as countsObjectiveGiven, fitGiven as countsFitGiven, requestOf as countsRequest};
 ghost use Rattle.objective.specs.Coordinates.{pointOf};
 ghost use Rattle.buffers.specs.Buffers.{given, fitGiven, objectiveGiven, summaryGiven};
 ghost use Rattle.parts.specs.Lent.{lent, told, partIn, finishIn};
@@ -191,12 +194,55 @@ pub extern "C" fn probit_archive_check(archive: &[u8]) -> u64
     archive_host::check_in(archive)
 }
 
+// Events and exposures by rows. Answers the ending's number.
+#[no_mangle]
+pub extern "C" fn probit_counts_objective(
+    shape: f64,
+    rate: f64,
+    events: &[u32],
+    exposures: &[f64],
+    numbers: &mut [f64],
+    counts: &mut [u64],
+) -> u64
+    ensures { λ r. ⌜ lentBack r (now (numbers .exit)) (now (counts .exit)) ≡ countsObjectiveGiven (countsObjective shape rate (now (events .entry)) (now (exposures .entry))) (now (numbers .entry)) (now (counts .entry)) ⌝ }
+    ensures { λ r. ⌜ (now (events .exit) ≡ now (events .entry)) × (now (exposures .exit) ≡ now (exposures .entry)) ⌝ }
+{
+    counts_host::objective_in(shape, rate, events, exposures, numbers, counts)
+}
+
+// Six bounds: low, high and start of the shape, then of the rate. Answers the ending's number.
+#[no_mangle]
+pub extern "C" fn probit_counts_fit(
+    bounds: &[f64],
+    tolerance: f64,
+    evaluations: u64,
+    iterations: u64,
+    events: &[u32],
+    exposures: &[f64],
+    numbers: &mut [f64],
+    counts: &mut [u64],
+) -> u64
+    ensures { λ r. ⌜ lentBack r (now (numbers .exit)) (now (counts .exit)) ≡ countsFitGiven (countsFit (countsRequest (now (bounds .entry)) tolerance evaluations iterations) (now (events .entry)) (now (exposures .entry))) (now (bounds .entry)) (now (numbers .entry)) (now (counts .entry)) ⌝ }
+    ensures { λ r. ⌜ (now (bounds .exit) ≡ now (bounds .entry)) × (now (events .exit) ≡ now (events .entry)) × (now (exposures .exit) ≡ now (exposures .entry)) ⌝ }
+{
+    counts_host::fit_in(
+        bounds,
+        tolerance,
+        evaluations,
+        iterations,
+        events,
+        exposures,
+        numbers,
+        counts,
+    )
+}
+
 // The interface's version: 1000 times its first number, and its second.
 #[no_mangle]
 pub extern "C" fn probit_version() -> u64
-    ensures { λ r. ⌜ r ≡ 1006 ⌝ }
+    ensures { λ r. ⌜ r ≡ 1007 ⌝ }
 {
-    1006
+    1007
 }
 
 // A request's bytes in, its answer's bytes out: how many, or 0 where `out` has fewer than 512 bytes, and then it is left as it was.

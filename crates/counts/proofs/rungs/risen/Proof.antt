@@ -1,0 +1,60 @@
+-- `rungs::risen` meets its contract, as the passes still to come make of the sums so far the whole.
+use mathlib.Core.Path.{_≡_, _∙_}
+use mathlib.Core.List.{List}
+use Prim.Native.Nat.{ℕ, _+_, _-_, _*_, _≤_, _<_}
+use native.Mathlib.Omega.{arith}
+use lib.ListN.{length}
+use lib.Ieee.{Float}
+use Rattle.num.specs.Left.{left-one, left-none}
+use Rattle.counts.specs.declared.share.Rising.{Rising}
+use Rattle.counts.specs.Share.{termAt, passOf, risingFrom, risingOf}
+use Rattle.counts.specs.Rungs.{rungAt, Held, rising-on}
+use borrow.Author.Needs.{needs}
+use Rattle.counts.proofs.rungs.risen.Statement.{statement}
+use Rattle.counts.proofs.rungs.risen.Tie as tie
+
+-- from a rung that is held
+module _ (shape : Float) (top : ℕ) (l : List Float) (h : Held shape top l) (k : ℕ) (b : k ≤ top) where
+  room : 3 * k + 2 < length l
+  room = omega (arith, h .few, h .sized)
+
+  begins : (n : ℕ) (s : Rising) → k ≤ n → s ≡ rungAt l k → risingFrom shape (n - k) k s ≡ risingOf shape n
+  begins n s a e = rw (e ∙ h .holds k b) (rising-on shape n k a)
+
+module _ (shape : Float) (n k : ℕ) (s : Rising) (v : risingFrom shape (n - k) k s ≡ risingOf shape n) where
+  turns : (t : Rising) → k < n → t ≡ passOf s (termAt shape k) → risingFrom shape (n - (k + 1)) (k + 1) t ≡ risingOf shape n
+  unfolding risingFrom
+  turns t h e = rw e (rw (left-one n k h) at v)
+
+  ends : n ≤ k → s ≡ risingOf shape n
+  unfolding risingFrom
+  ends h = rw (left-none n k h) at v
+
+abbrev Inv-loop : tie.InvT-loop
+Inv-loop shape count top rungs first s₀ k₀ s k = risingFrom shape (count - k) k s ≡ risingOf shape count
+
+abbrev μ-loop : tie.MeasureT-loop
+μ-loop shape count top rungs first s₀ k₀ s k = count - k
+
+held : tie.Need-rung-at-requires Inv-loop μ-loop
+held c κs = room _ _ _ (c .before .before .pre) _ (c .lesser .ensures .2)
+
+loop-holds : tie.Need-loop-holds Inv-loop μ-loop
+loop-holds c = let l = c .before in begins _ _ _ (l .before .before .pre) _ (l .lesser .ensures .2) _ _ (l .lesser .ensures .1) (c .rung-at .ensures)
+
+pub risen-spec : {M : Type 1} → statement M
+risen-spec =
+    tie.close
+    (tie.spec
+    Inv-loop
+    μ-loop
+    (λ c κs. search needs)
+    (λ c. search needs)
+    held
+    loop-holds
+    (λ c. search needs)
+    (λ c κs. search needs)
+    (λ c. search needs)
+    (λ c. search needs)
+    (λ c. search turns)
+    (λ c. search ends))

@@ -1,0 +1,13 @@
+-- `report::high` meets its contract, by what its callees ensure.
+use borrow.Author.Needs.{needs}
+use Rattle.counts_fit.proofs.report.high.Statement.{statement}
+use Rattle.counts_fit.proofs.report.high.Tie as tie
+
+pub high-spec : {M : Type 1} → statement M
+high-spec =
+    tie.close
+    (tie.spec
+    (λ c κs. search needs)
+    (λ c κs. search needs)
+    (λ c κs. search needs)
+    (λ c. rw (c .among-four .ensures, c .before .log2 .ensures, c .before .before .log .ensures)))

@@ -1,0 +1,9 @@
+pub mod Fit
+pub mod Among
+pub mod Spent
+pub mod Valued
+pub mod Whole
+pub mod Answers
+pub mod Stops
+pub mod Claims
+pub mod Inside
