@@ -5,7 +5,7 @@ mod probit {
     pub const ANSWERED: u64 = 0;
     pub const WORK_BUDGET: u64 = 3;
     pub const TEXT: usize = 512;
-    pub const VERSION: u64 = 1007;
+    pub const VERSION: u64 = 1008;
     const ENDINGS: [&str; 5] = ["answered", "invalid input", "domain", "work budget", "form"];
 
     pub fn ending(n: u64) -> &'static str {

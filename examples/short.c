@@ -100,6 +100,24 @@ static void one_fit(size_t b, size_t l, size_t n, size_t c, int where) {
     give_back(&lb), give_back(&ll), give_back(&ln), give_back(&lc);
 }
 
+/* The start is the answer: no trial, whatever the number. */
+static void one_why(size_t b, size_t l, size_t n, size_t c, size_t r, int where) {
+    struct lent lb = lend(bounds, 8 * b, where), ll = lend(litters, 4 * l, where), ln = lend(NULL, 8 * n, where), lc = lend(NULL, 8 * c, where), lr = lend(NULL, 8 * r, where);
+    uint64_t end = probit_why((double *)lb.at, b, 1e-6, 10, 10, 4, (uint32_t *)ll.at, l, r, (double *)ln.at, n, (uint64_t *)lc.at, c, (uint64_t *)lr.at, r);
+    int fits = b == PROBIT_BOUNDS && n >= PROBIT_FIT_FIRST_NUMBERS && c >= PROBIT_FIT_COUNTS && r >= PROBIT_WHY;
+    size_t filled = !fits ? 0 : n < PROBIT_FIT_NUMBERS ? PROBIT_FIT_FIRST_NUMBERS : PROBIT_FIT_NUMBERS;
+    int answered = fits && l == WHOLE;
+    int good = end == (answered ? PROBIT_ANSWERED : PROBIT_INVALID_INPUT);
+    good &= kept(&ln, 8 * filled) && kept(&lc, fits ? 8 * PROBIT_FIT_COUNTS : 0) && kept(&lr, fits ? 8 * PROBIT_WHY : 0);
+    good &= (!b || !memcmp(lb.at, bounds, 8 * b)) && (!l || !memcmp(ll.at, litters, 4 * l));
+    if (fits) {
+        const uint64_t said[PROBIT_WHY] = {PROBIT_NO_TRIAL, 0, PROBIT_INVALID_INPUT, 0, 0, answered ? PROBIT_TEST_NORM : PROBIT_NO_TEST, 0};
+        good &= !memcmp(lr.at, said, sizeof said) && ((uint64_t *)lc.at)[PROBIT_QUADRATURE] == (answered ? 4 : 0);
+    }
+    expect(good, "probit_why", b, n, c, r);
+    give_back(&lb), give_back(&ll), give_back(&ln), give_back(&lc), give_back(&lr);
+}
+
 static void one_objective(size_t p, size_t l, size_t n, size_t c, int where) {
     struct lent lp = lend(point, 8 * p, where), ll = lend(litters, 4 * l, where), ln = lend(NULL, 8 * n, where), lc = lend(NULL, 8 * c, where);
     uint64_t end = probit_objective((double *)lp.at, p, (uint32_t *)ll.at, l, (double *)ln.at, n, (uint64_t *)lc.at, c);
@@ -464,7 +482,14 @@ int main(int argc, char **argv) {
             for (size_t n = 0; n <= PROBIT_FIT_NUMBERS + 1; n++)
                 for (size_t c = 0; c <= PROBIT_FIT_COUNTS + 1; c++)
                     one_fit(b, WHOLE, n, c, where);
+        for (size_t b = 0; b <= PROBIT_BOUNDS + 1; b++)
+            for (size_t c = 0; c <= PROBIT_FIT_COUNTS + 1; c++)
+                for (size_t r = 0; r <= PROBIT_WHY + 1; r++)
+                    one_why(b, WHOLE, PROBIT_FIT_NUMBERS, c, r, where);
+        for (size_t n = 0; n <= PROBIT_FIT_NUMBERS + 1; n++)
+            one_why(PROBIT_BOUNDS, WHOLE, n, PROBIT_FIT_COUNTS, PROBIT_WHY, where);
         for (size_t l = 0; l <= WHOLE + 1; l++) {
+            one_why(PROBIT_BOUNDS, l, PROBIT_FIT_NUMBERS, PROBIT_FIT_COUNTS, PROBIT_WHY, where);
             one_fit(PROBIT_BOUNDS, l, PROBIT_FIT_NUMBERS, PROBIT_FIT_COUNTS, where);
             one_objective(PROBIT_POINT, l, PROBIT_OBJECTIVE_NUMBERS, PROBIT_OBJECTIVE_COUNTS, where);
             one_vet(PROBIT_BOUNDS, l, PROBIT_CLAIM, PROBIT_VET_NUMBERS, PROBIT_VET_COUNTS, where);
@@ -487,7 +512,7 @@ int main(int argc, char **argv) {
         intervals(where);
         archives(where);
         tallies(where);
-        one_fit(0, 0, 0, 0, where), one_objective(0, 0, 0, 0, where), one_vet(0, 0, 0, 0, 0, where), one_summary(0, 0, where), one_text(0, 0, where);
+        one_fit(0, 0, 0, 0, where), one_why(0, 0, 0, 0, 0, where), one_objective(0, 0, 0, 0, where), one_vet(0, 0, 0, 0, 0, where), one_summary(0, 0, where), one_text(0, 0, where);
     }
     most_litters();
     limits();

@@ -24,7 +24,7 @@ extern "C" {
 /* ---- The version of this interface: 1000 times the first number, and the second. The second rises when something is added, the first when something
  * here changes or goes. A library fits a host if its first number is the header's and its version is no less:
  *   probit_version() / 1000 == PROBIT_VERSION / 1000 && probit_version() >= PROBIT_VERSION */
-#define PROBIT_VERSION 1007
+#define PROBIT_VERSION 1008
 
 uint64_t probit_version(void);
 
@@ -131,6 +131,53 @@ enum {
 
 uint64_t probit_fit(const double *bounds, size_t bounds_len, double tolerance, uint64_t evaluations, uint64_t iterations, uint64_t quadrature,
                     const uint32_t *litters, size_t litters_len, double *numbers, size_t numbers_len, uint64_t *counts, size_t counts_len);
+
+/* ---- Why the fit took its steps: probit_fit, and beside it a trial of its line searches and what stopped it (docs/WHY.md is a page for a help desk).
+ *
+ * number: of the trial, counted from 1 over the whole fit, at most PROBIT_MAX_TRIALS. All other arguments, numbers and counts, and the value, as those of
+ *   probit_fit: the fit and its counts are the same.
+ * reasons (PROBIT_WHY or more): at the places below. The trial's part is PROBIT_INVALID_INPUT with count 0 where no trial has that number, as 0 and the
+ *   number after the last; the refused trial is the last, with the fit's own refusal, count and reason. The other parts stand whatever the number is.
+ * Where a length is wrong or a buffer too short, the value is PROBIT_INVALID_INPUT and nothing is written. */
+#define PROBIT_MAX_TRIALS 48000
+#define PROBIT_WHY 7
+
+/* places in reasons */
+enum {
+    PROBIT_WHY_TRIAL,        /* what the trial came to, one of those below */
+    PROBIT_WHY_BITS,         /* the bits of the number that decided it, an f64; 0 where none did */
+    PROBIT_WHY_TRIAL_ENDING, /* PROBIT_ANSWERED where it was made, else the refusal */
+    PROBIT_WHY_TRIAL_COUNT,
+    PROBIT_WHY_TRIAL_REASON,
+    PROBIT_WHY_TEST,  /* the test that stopped the fit, one of those below */
+    PROBIT_WHY_LITTER /* the litter at which the fit was refused, counted from 1; 0 where none was */
+};
+
+/* what a trial came to, and the number that decided it */
+enum {
+    PROBIT_NO_TRIAL = 0,
+    PROBIT_NOT_DOWNHILL = 1, /* the slope */
+    PROBIT_NOT_MOVED = 2,    /* by proof met by no fit */
+    PROBIT_TOO_LITTLE = 3,   /* the candidate's likelihood less the bound it missed */
+    PROBIT_BY_DECREASE = 4,  /* taken; the slope */
+    PROBIT_BY_ROUNDING = 5,  /* taken; the rounding allowance */
+    PROBIT_CUT_OFF = 6,      /* by the limit of evaluations of the objective */
+    PROBIT_TRIAL_REFUSED = 7
+};
+
+/* the test that stopped a fit; a refusal has PROBIT_NO_TEST */
+enum {
+    PROBIT_NO_TEST = 0,
+    PROBIT_TEST_NORM = 1,        /* at the head: the norm is at most the tolerance */
+    PROBIT_TEST_EVALUATIONS = 2, /* at the head: the evaluations are spent */
+    PROBIT_TEST_ITERATIONS = 3,  /* at the head: the iterations are spent */
+    PROBIT_TEST_HALVINGS = 4,    /* 48 trials without a step; the status says whether the evaluations are spent too */
+    PROBIT_TEST_CUT_OFF = 5      /* the evaluations were spent before the 48 trials were made */
+};
+
+uint64_t probit_why(const double *bounds, size_t bounds_len, double tolerance, uint64_t evaluations, uint64_t iterations, uint64_t quadrature,
+                    const uint32_t *litters, size_t litters_len, uint64_t number, double *numbers, size_t numbers_len, uint64_t *counts,
+                    size_t counts_len, uint64_t *reasons, size_t reasons_len);
 
 /* ---- The objective at one point: the negative log-likelihood with its derivatives.
  *

@@ -1,4 +1,4 @@
-/* Endings, reasons and statuses of probit.h in words, for a host's log. The statuses are those that an answer's text has.
+/* Endings, reasons, statuses, trials and tests of probit.h in words, for a host's log. The statuses, trials and tests are those that the programs' text has.
  * A number that has no name is "unknown". The strings last for the whole program; nothing is allocated. */
 #ifndef PROBIT_NAMES_H
 #define PROBIT_NAMES_H
@@ -40,6 +40,32 @@ static inline const char *probit_status_name(uint64_t status) {
     case PROBIT_EVALUATION_LIMIT: return "evaluation-limit";
     case PROBIT_ITERATION_LIMIT: return "iteration-limit";
     case PROBIT_LINE_SEARCH_FAILED: return "line-search-failed";
+    default: return "unknown";
+    }
+}
+
+static inline const char *probit_trial_name(uint64_t trial) {
+    switch (trial) {
+    case PROBIT_NO_TRIAL: return "none";
+    case PROBIT_NOT_DOWNHILL: return "not-downhill";
+    case PROBIT_NOT_MOVED: return "not-moved";
+    case PROBIT_TOO_LITTLE: return "too-little";
+    case PROBIT_BY_DECREASE: return "by-decrease";
+    case PROBIT_BY_ROUNDING: return "by-rounding";
+    case PROBIT_CUT_OFF: return "cut-off";
+    case PROBIT_TRIAL_REFUSED: return "refused";
+    default: return "unknown";
+    }
+}
+
+static inline const char *probit_test_name(uint64_t test) {
+    switch (test) {
+    case PROBIT_NO_TEST: return "none";
+    case PROBIT_TEST_NORM: return "norm";
+    case PROBIT_TEST_EVALUATIONS: return "evaluations";
+    case PROBIT_TEST_ITERATIONS: return "iterations";
+    case PROBIT_TEST_HALVINGS: return "halvings";
+    case PROBIT_TEST_CUT_OFF: return "cut-off";
     default: return "unknown";
     }
 }

@@ -24,6 +24,12 @@ static void fit(void) {
     end = probit_fit(bounds, PROBIT_BOUNDS, 1e-6, 200, 200, quadrature, litters, litters_len, numbers, PROBIT_FIT_NUMBERS, counts, PROBIT_FIT_COUNTS);
 }
 
+static uint64_t reasons[PROBIT_WHY];
+
+static void why(void) {
+    probit_why(bounds, PROBIT_BOUNDS, 1e-6, 200, 200, quadrature, litters, litters_len, 2, numbers, PROBIT_FIT_NUMBERS, counts, PROBIT_FIT_COUNTS, reasons, PROBIT_WHY);
+}
+
 static void objective(void) {
     probit_objective(point, PROBIT_POINT, litters, litters_len, numbers, PROBIT_OBJECTIVE_NUMBERS, counts, PROBIT_OBJECTIVE_COUNTS);
 }
@@ -141,7 +147,7 @@ static void study(size_t n, double mean, double sd, uint64_t limit) {
 static const struct {
     const char *name;
     void (*f)(void);
-} functions[] = {{"probit_fit", fit}, {"probit_objective", objective}, {"probit_vet", vet}, {"probit_summary", summary}, {"probit_text", text},
+} functions[] = {{"probit_fit", fit}, {"probit_why", why}, {"probit_objective", objective}, {"probit_vet", vet}, {"probit_summary", summary}, {"probit_text", text},
                  {"probit_part", part}, {"probit_finish", finish}, {"probit_answer", answer},
                  {"probit_intervals", intervals}, {"probit_counts_fit", counts_fit}, {"probit_counts_objective", counts_objective},
                  {"probit_archive_size", size}, {"probit_archive_write", writes}, {"probit_archive_range", range}, {"probit_archive_check", check}};

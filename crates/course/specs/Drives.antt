@@ -42,7 +42,7 @@ module _ {E Y : Type 0} (at : E → Y) (ev : List Float → Work E Y Totals) (l 
   fits x used end count c v h = rw (v .counts) (omega (arith, within at (l - used) 0 (ev x) zero-le))
 
   module _ (p : Plan) (n : ℕ) where
-    abbrev runs : ℕ → Rest → Course
+    abbrev pub runs : ℕ → Rest → Course
     runs u w = shown n (driven at (λ q. ev (q .at)) l u w)
 
     unfoldable pub courseOf : List Float → Course
@@ -50,9 +50,9 @@ module _ {E Y : Type 0} (at : E → Y) (ev : List Float → Work E Y Totals) (l 
 
     -- with `used` behind it, the state comes to the whole
     pub record Left (whole : Course) (s : Stepper) (used : ℕ) : Type 0 where
-      rest : Rest
-      stands : Stands p n s rest
-      makes : runs used rest ≡ whole
+      pub rest : Rest
+      pub stands : Stands p n s rest
+      pub makes : runs used rest ≡ whole
 
     pub starts : (x : List Float) (s : Stepper) → s ≡ beginOf x n → Left (courseOf (s .next)) s 0
     unfolding courseOf
@@ -63,7 +63,7 @@ module _ {E Y : Type 0} (at : E → Y) (ev : List Float → Work E Y Totals) (l 
     ends s used _ (over ts h e) t = rw e
     ends s used _ (awaits h e k) t = let z : _≡_ {A = ℕ} 0 1 = cc in absurd (omega arith)
 
-    hears : (used : ℕ) (q : Asked (List Float)) (k : Totals → Rest) (end : Ending) (count : ℕ) (c : Totals) → Valued (q .at) used end count c → runs used (ask q k) ≡ cond (isRefused end) (refusalOf end (used + count) (q .begun) (watchOf n (q .trials))) (runs (used + count) (k c))
+    pub hears : (used : ℕ) (q : Asked (List Float)) (k : Totals → Rest) (end : Ending) (count : ℕ) (c : Totals) → Valued (q .at) used end count c → runs used (ask q k) ≡ cond (isRefused end) (refusalOf end (used + count) (q .begun) (watchOf n (q .trials))) (runs (used + count) (k c))
     unfolding driven
     hears used q k end count c v =
         let m = metered at l used (ev (q .at)) in

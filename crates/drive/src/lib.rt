@@ -6,7 +6,13 @@ use stepper::Plan;
 use value::Totals;
 use work::QuadratureEvaluations;
 ghost use mathlib.Core.Path.{_≡_};
-ghost use Rattle.drive.specs.Drive.{totalsIn, drivenOf};
+ghost use Rattle.drive.specs.Drive.{totalsIn, runOf};
+
+// A descent that was driven to its end, and the litter at which it was refused, counted from 1: 0 where none was.
+pub struct Outcome {
+    pub course: Course,
+    pub litter: u64,
+}
 
 fn totals_of(o: Objective) -> Totals
     ensures { λ r. ⌜ r ≡ totalsIn o ⌝ }
@@ -28,26 +34,32 @@ pub fn run(
     limit: u64,
     x: [f64; 4],
     wanted: u64,
-) -> Course
-    ensures { λ r. ⌜ (r ≡ drivenOf rule (now (litters .entry)) p limit wanted x) × (now (litters .exit) ≡ now (litters .entry)) ⌝ }
+) -> Outcome
+    ensures { λ r. ⌜ (r ≡ runOf rule (now (litters .entry)) p limit wanted x) × (now (litters .exit) ≡ now (litters .entry)) ⌝ }
 {
     let mut s = stepper::begin(x, wanted);
     let mut used: u64 = 0;
     loop {
         if !stepper::awaits(s) {
-            return course::stopped(used, s);
+            let course = course::stopped(used, s);
+            return Outcome { course, litter: 0 };
         }
         let next = s.next;
-        let o = objective::limited_objective(
+        let n = objective::named_objective(
             rule,
             next,
             litters,
             QuadratureEvaluations(limit - used),
         );
+        let o = n.objective;
         let spent = used + o.used.0;
         let end = o.end;
         if work::refused(end) {
-            return course::refusal(end, spent, s);
+            let course = course::refusal(end, spent, s);
+            return Outcome {
+                course,
+                litter: n.litter,
+            };
         }
         let t = stepper::tell(p, s, totals_of(o));
         s = t;

@@ -21,10 +21,15 @@ use Rattle.request.specs.declared.Request.{Request}
 use Rattle.course.specs.declared.Course.{Course}
 use Rattle.fit.specs.declared.report.Fit.{Fit}
 use Rattle.fit.specs.declared.report.Seen.{Seen}
-use Rattle.why.specs.declared.Why.the-variants.{Unmade}
+use Rattle.drive.specs.declared.Outcome.{Outcome}
+use Rattle.drive.specs.Drive.{runOf}
+use Rattle.stepper.specs.declared.Plan.{Plan}
+use Rattle.why.specs.declared.Why.{Why}
+use Rattle.why.specs.declared.Stop.{Stop}
+use Rattle.why.specs.Why.{whyIn, stopIn}
 use Rattle.request.specs.Request.{upTo, admits, validBoxes, validControls, validLimit, startOf, lowOf, highOf}
 use Rattle.trial.specs.Judged.{normAt}
-use Rattle.fit.specs.Fit.{sdsOf, activeOf, refusedOf, reportedOf, seenOf, whyFor, watchedOf, fitOf}
+use Rattle.fit.specs.Fit.{planOf, sdsOf, activeOf, refusedOf, reportedOf, wholeOf, litterOf, seenOf, unfitOf, whyFor, stopFor, watchedOf, fitOf}
 use Rattle.fit.specs.Driven.{admitted-is, not-admitted-is}
 
 -- ---- the report
@@ -37,19 +42,24 @@ module _ (r : Request) (n : ℕ) (d : Course) where
   unfolding reportedOf sdsOf activeOf
   reported-gives lo hi s m a t e f g h k = rw (t, g, h, k, e, f)
 
+-- ---- the fit, watched
+pub seen-is : (r : Request) (ls : List ℕ) (n : ℕ) (rule : List Pair) (p : Plan) (x : List Float) (d : Outcome) (f : Fit) (w : Why) (s : Stop) → rule ≡ legendreOf → p ≡ planOf r → x ≡ startOf r → d ≡ runOf rule ls p (r .quadrature .0) n x → f ≡ reportedOf r (countOf ls) (d .course) → w ≡ whyIn n (d .course) → s ≡ stopIn (d .course) (d .litter) → record { fit = f; why = w; stop = s } ≡ seenOf r ls n
+unfolding seenOf wholeOf litterOf runOf
+seen-is r ls n rule p x d f w s e g h i j k m = rw (j, k, m, i, e, g, h)
+
 module _ (r : Request) (ls : List ℕ) (n : ℕ) where
   module _ (l : Bool) (e : l ≡ validLimit (r .quadrature .0)) where
-    pub fit-limit : (f : Fit) → l ≡ false → f ≡ refusedOf InvalidInput 0 → record { fit = f; why = Unmade } ≡ watchedOf r ls n
-    unfolding watchedOf fitOf whyFor
-    fit-limit f t u = rw (← e, t, u)
+    pub fit-limit : (s : Seen) → l ≡ false → s ≡ unfitOf → s ≡ watchedOf r ls n
+    unfolding watchedOf fitOf whyFor stopFor
+    fit-limit s t u = rw (← e, t) u
 
     module _ (t : l ≡ true) (a : Bool) (k : a ≡ admits r ls) where
-      pub fit-refused : (f : Fit) → a ≡ false → f ≡ refusedOf InvalidInput 0 → record { fit = f; why = Unmade } ≡ watchedOf r ls n
-      unfolding watchedOf fitOf whyFor
-      fit-refused f h u = rw (← e, t, not-admitted-is r ls (sym k ∙ h), ← k, h, u)
+      pub fit-refused : (s : Seen) → a ≡ false → s ≡ unfitOf → s ≡ watchedOf r ls n
+      unfolding watchedOf fitOf whyFor stopFor
+      fit-refused s h u = rw (← e, t, not-admitted-is r ls (sym k ∙ h), ← k, h) u
 
       pub fit-goes : (s : Seen) → a ≡ true → s ≡ seenOf r ls n → s ≡ watchedOf r ls n
-      unfolding watchedOf fitOf whyFor seenOf
+      unfolding watchedOf fitOf whyFor stopFor seenOf
       fit-goes s h u = rw (← e, t, admitted-is r ls n (sym k ∙ h), ← k, h) u
 
 pub the-fit : (r : Request) (ls : List ℕ) (n : ℕ) (s : Seen) → s ≡ watchedOf r ls n → s .fit ≡ fitOf r ls

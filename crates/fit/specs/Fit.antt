@@ -29,10 +29,12 @@ use Rattle.fit.specs.declared.report.Seen.{Seen}
 use Rattle.request.specs.Request.{admits, validLimit, startOf, lowOf, highOf}
 use Rattle.trial.specs.Judged.{normAt}
 use Rattle.stepper.specs.Machine.{problemOf}
-use Rattle.drive.specs.Drive.{valueAt, drivenOf}
+use Rattle.drive.specs.Drive.{valueAt, drivenOf, refusedLitter}
 use Rattle.why.specs.declared.Why.{Why}
 use Rattle.why.specs.declared.Why.the-variants.{Unmade}
-use Rattle.why.specs.Why.{whyIn}
+use Rattle.why.specs.declared.Test.the-variants.{NoTest}
+use Rattle.why.specs.declared.Stop.{Stop}
+use Rattle.why.specs.Why.{whyIn, stopIn}
 
 abbrev pub planOf : Request → Plan
 planOf r = record { lo = lowOf r; hi = highOf r; tolerance = r .tolerance; most = r .evaluations; turns = r .iterations }
@@ -138,6 +140,10 @@ refusedOf end used = toFit end used noReport
 unfoldable pub wholeOf : Request → List ℕ → ℕ → Course
 wholeOf r ls n = drivenOf legendreOf ls (planOf r) (r .quadrature .0) n (startOf r)
 
+-- the litter at which it is refused, counted from 1; 0 where none is
+unfoldable pub litterOf : Request → List ℕ → ℕ
+litterOf r ls = refusedLitter legendreOf ls (planOf r) (r .quadrature .0) (startOf r)
+
 unfoldable pub reportedOf : Request → ℕ → Course → Fit
 reportedOf r n d =
     cond (isRefused (d .end)) (refusedOf (d .end) (d .used)) (toFit Answered (d .used) (reportOf r n (d .status) (d .x) (d .v) (d .evaluations .0) (d .iterations .0)))
@@ -149,13 +155,23 @@ limitedFit limit r ls = told toFit noReport (metered at limit 0 (fit legendreOf 
 unfoldable pub fitOf : Request → List ℕ → Fit
 fitOf r ls = cond (validLimit (r .quadrature .0)) (limitedFit (r .quadrature .0) r ls) (refusedOf InvalidInput 0)
 
--- ---- with a trial watched: the fit is the same, whichever it is
+-- ---- with a trial watched: the fit is the same, whichever it is, and so is what stopped it
 
 unfoldable pub seenOf : Request → List ℕ → ℕ → Seen
-seenOf r ls n = record { fit = reportedOf r (countOf ls) (wholeOf r ls n); why = whyIn (wholeOf r ls n) }
+seenOf r ls n = record { fit = reportedOf r (countOf ls) (wholeOf r ls n); why = whyIn n (wholeOf r ls n); stop = stopIn (wholeOf r ls n) (litterOf r ls) }
+
+-- of a request that fails a check
+abbrev pub unfitStop : Stop
+unfitStop = record { test = NoTest; end = InvalidInput; litter = 0 }
+
+abbrev pub unfitOf : Seen
+unfitOf = record { fit = refusedOf InvalidInput 0; why = Unmade; stop = unfitStop }
 
 unfoldable pub whyFor : Request → List ℕ → ℕ → Why
-whyFor r ls n = cond (validLimit (r .quadrature .0)) (cond (admits r ls) (whyIn (wholeOf r ls n)) Unmade) Unmade
+whyFor r ls n = cond (validLimit (r .quadrature .0)) (cond (admits r ls) (whyIn n (wholeOf r ls n)) Unmade) Unmade
+
+unfoldable pub stopFor : Request → List ℕ → ℕ → Stop
+stopFor r ls n = cond (validLimit (r .quadrature .0)) (cond (admits r ls) (stopIn (wholeOf r ls n) (litterOf r ls)) unfitStop) unfitStop
 
 unfoldable pub watchedOf : Request → List ℕ → ℕ → Seen
-watchedOf r ls n = record { fit = fitOf r ls; why = whyFor r ls n }
+watchedOf r ls n = record { fit = fitOf r ls; why = whyFor r ls n; stop = stopFor r ls n }

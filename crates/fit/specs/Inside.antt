@@ -50,11 +50,11 @@ both a b h k = rw (h, k)
 
 module _ (r : Request) (ls : List ℕ) where
   module _ (h : admits r ls ≡ true) where
-    start-boxed : Boxed r (startOf r)
+    pub start-boxed : Boxed r (startOf r)
     start-boxed = record { inside = start-inside r ls h; third = start-fits _; fourth = start-fits _ }
 
     -- a candidate from a point in the box, where the value is finite, lies in the box
-    kept : (x : List Float) (v : Totals) → Boxed r x → Known v → (k : ℕ) → Boxed r (candidateOf x (directionAt (lowOf r) (highOf r) x v) (shareOf k) (lowOf r) (highOf r))
+    pub kept : (x : List Float) (v : Totals) → Boxed r x → Known v → (k : ℕ) → Boxed r (candidateOf x (directionAt (lowOf r) (highOf r) x v) (shareOf k) (lowOf r) (highOf r))
     kept x v b q k =
         let lo = lowOf r in
         let hi = highOf r in

@@ -3,13 +3,15 @@ use course::Course;
 use descent::Status;
 use request::Request;
 use stepper::Plan;
+use why::Stop;
+use why::Test;
 use why::Why;
 use work::Ending;
 use work::FitEvaluations;
 use work::Iterations;
 use work::QuadratureEvaluations;
 ghost use mathlib.Core.Path.{_≡_};
-ghost use Rattle.fit.specs.Fit.{planOf, sdsOf, onBound, activeOf, refusedOf, reportedOf, seenOf, fitOf, watchedOf};
+ghost use Rattle.fit.specs.Fit.{planOf, sdsOf, onBound, activeOf, refusedOf, reportedOf, seenOf, unfitOf, fitOf, watchedOf};
 
 // The coordinates are two means, then two variances: gradient, Hessian (by rows) and `active`, which marks those that lie on a bound, go by them.
 pub struct Fit {
@@ -29,9 +31,11 @@ pub struct Fit {
     pub active: [bool; 4],
 }
 
+// The fit, why the trial that was watched ended as it did, and what stopped the descent.
 pub struct Seen {
     pub fit: Fit,
     pub why: Why,
+    pub stop: Stop,
 }
 
 fn refusal(end: Ending, used: QuadratureEvaluations) -> Fit
@@ -148,28 +152,38 @@ fn fit_admitted(r: Request, litters: &[u32], wanted: u64) -> Seen
         request::start(r),
         wanted,
     );
-    let fit = reported(r, n as u64, d);
-    let why = why::watched(d);
-    Seen { fit, why }
+    let course = d.course;
+    let fit = reported(r, n as u64, course);
+    let why = why::watched(wanted, course);
+    let stop = why::stopped(course, d.litter);
+    Seen { fit, why, stop }
 }
 
-// The fit, and why the trial of the number wanted ended as it did.
+// A request that fails a check has no trial and no litter.
+fn unfit() -> Seen
+    ensures { λ s. ⌜ s ≡ unfitOf ⌝ }
+{
+    let fit = refusal(Ending::InvalidInput, QuadratureEvaluations(0));
+    Seen {
+        fit,
+        why: Why::Unmade,
+        stop: Stop {
+            test: Test::NoTest,
+            end: Ending::InvalidInput,
+            litter: 0,
+        },
+    }
+}
+
+// The fit, why the trial of the number wanted ended as it did, and what stopped the fit.
 pub fn fit_watched(r: Request, litters: &[u32], wanted: u64) -> Seen
     ensures { λ s. ⌜ (s ≡ watchedOf r (now (litters .entry)) wanted) × (now (litters .exit) ≡ now (litters .entry)) ⌝ }
 {
     if !request::up_to(20000000, r.quadrature.0) {
-        let fit = refusal(Ending::InvalidInput, QuadratureEvaluations(0));
-        return Seen {
-            fit,
-            why: Why::Unmade,
-        };
+        return unfit();
     }
     if !request::admitted(r, litters) {
-        let fit = refusal(Ending::InvalidInput, QuadratureEvaluations(0));
-        return Seen {
-            fit,
-            why: Why::Unmade,
-        };
+        return unfit();
     }
     fit_admitted(r, litters, wanted)
 }

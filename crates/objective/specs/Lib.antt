@@ -1,6 +1,7 @@
 pub mod Litters
 pub mod Totals
 pub mod Objective
+pub mod Named
 pub mod Bound
 pub mod Refused
 pub mod Reasons

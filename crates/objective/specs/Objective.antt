@@ -62,9 +62,6 @@ rowAt rule x ls i limit = let g = indexOf (groupAt ls i) in rowOf i (successesAt
 unfoldable pub rowsFrom : List Pair → List Float → List ℕ → ℕ → ℕ → ℕ → ℕ → Totals → Objective
 rowsFrom rule x ls limit used n i t = told toObjective noTotals (metered at limit used (rows rule x ls n i t))
 
-unfoldable pub summedOf : List Pair → List Float → List ℕ → ℕ → Objective
-summedOf rule x ls limit = rowsFrom rule x ls limit 0 (countOf ls) 0 noTotals
-
 unfoldable pub limitedOf : List Pair → List Float → List ℕ → QuadratureEvaluations → Objective
 limitedOf rule x ls limit = told toObjective noTotals (metered at (limit .0) 0 (objective rule x ls))
 

@@ -7,7 +7,8 @@ use work::QuadratureEvaluations;
 ghost use mathlib.Core.Path.{_≡_};
 ghost use Prim.Native.Nat.{_+_, _*_, _<_};
 ghost use lib.ListN.{length};
-ghost use Rattle.objective.specs.Objective.{refusalOf, answeredOf, endedOf, rowAt, summedOf, limitedOf, objectiveOf};
+ghost use Rattle.objective.specs.Objective.{refusalOf, answeredOf, endedOf, rowAt, limitedOf, objectiveOf};
+ghost use Rattle.objective.specs.Named.{summedOf, namedOf};
 
 // The coordinates are two means, then two variances. The Hessian stands by rows.
 pub struct Objective {
@@ -17,6 +18,12 @@ pub struct Objective {
     pub gradient: [f64; 4],
     pub hessian: [f64; 16],
     pub refinement: f64,
+}
+
+// An objective, and the litter at which it was refused, counted from 1: 0 where none was.
+pub struct Named {
+    pub objective: Objective,
+    pub litter: u64,
 }
 
 fn refusal(end: Ending, used: QuadratureEvaluations) -> Objective
@@ -76,7 +83,7 @@ fn litter(i: usize, rule: [Pair; 16], x: [f64; 4], litters: &[u32], limit: u64) 
     )
 }
 
-fn summed(rule: [Pair; 16], x: [f64; 4], litters: &[u32], limit: u64) -> Objective
+fn summed(rule: [Pair; 16], x: [f64; 4], litters: &[u32], limit: u64) -> Named
     ensures { λ r. ⌜ r ≡ summedOf rule x (now (litters .entry)) limit ⌝ }
 {
     let n = litters.len() / 3;
@@ -88,20 +95,54 @@ fn summed(rule: [Pair; 16], x: [f64; 4], litters: &[u32], limit: u64) -> Objecti
         refinement: 0.0,
     };
     for i in 0..n {
+        let number = i as u64 + 1;
         let r = litter(i, rule, x, litters, limit - used);
         used += r.used.0;
         let end = r.end;
         if work::refused(end) {
-            return refusal(end, QuadratureEvaluations(used));
+            let objective = refusal(end, QuadratureEvaluations(used));
+            return Named {
+                objective,
+                litter: number,
+            };
         }
         let g = crate::totals::index(litters[3 * i + 2]);
         let s = crate::totals::accumulated(t, g, r);
         t = s;
     }
-    ended(used, t)
+    let objective = ended(used, t);
+    Named {
+        objective,
+        litter: 0,
+    }
 }
 
 // The rule is computed once and passed on: the source computes it at each call, to the same bits.
+pub fn named_objective(
+    rule: [Pair; 16],
+    x: [f64; 4],
+    litters: &[u32],
+    limit: QuadratureEvaluations,
+) -> Named
+    ensures { λ r. ⌜ (r ≡ namedOf rule x (now (litters .entry)) limit) × (now (litters .exit) ≡ now (litters .entry)) ⌝ }
+{
+    if !crate::check::valid_point(x) {
+        let objective = refusal(Ending::InvalidInput, QuadratureEvaluations(0));
+        return Named {
+            objective,
+            litter: 0,
+        };
+    }
+    if !crate::check::valid_litters(litters) {
+        let objective = refusal(Ending::InvalidInput, QuadratureEvaluations(0));
+        return Named {
+            objective,
+            litter: 0,
+        };
+    }
+    summed(rule, x, litters, limit.0)
+}
+
 pub fn limited_objective(
     rule: [Pair; 16],
     x: [f64; 4],
@@ -110,13 +151,8 @@ pub fn limited_objective(
 ) -> Objective
     ensures { λ r. ⌜ (r ≡ limitedOf rule x (now (litters .entry)) limit) × (now (litters .exit) ≡ now (litters .entry)) ⌝ }
 {
-    if !crate::check::valid_point(x) {
-        return refusal(Ending::InvalidInput, QuadratureEvaluations(0));
-    }
-    if !crate::check::valid_litters(litters) {
-        return refusal(Ending::InvalidInput, QuadratureEvaluations(0));
-    }
-    summed(rule, x, litters, limit.0)
+    let n = named_objective(rule, x, litters, limit);
+    n.objective
 }
 
 pub fn probit_normal_binomial_objective(x: [f64; 4], litters: &[u32]) -> Objective

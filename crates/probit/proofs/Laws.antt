@@ -20,9 +20,11 @@ use Rattle.summary.specs.declared.Summary.{Summary}
 use Rattle.summary.specs.Summary.{summaryOf}
 use Rattle.request.specs.declared.Request.{Request}
 use Rattle.fit.specs.declared.report.Fit.{Fit}
-use Rattle.fit.specs.Fit.{fitOf}
+use Rattle.fit.specs.declared.report.Seen.{Seen}
+use Rattle.fit.specs.Fit.{fitOf, watchedOf}
+use Rattle.explain.specs.Counts.{Got, got, whyRoom, whyPut, whyGiven}
 use Rattle.fit.specs.Refused.{invalid-refused, many-refused}
-use Rattle.buffers.specs.Buffers.{Given, given, fitPut, objectivePut, summaryPut}
+use Rattle.buffers.specs.Buffers.{Given, given, fitRoom, fitPut, objectivePut, summaryPut}
 use Rattle.claim.specs.declared.Vetted.{Vetted}
 use Rattle.claim.specs.Claim.{claimFrom}
 use Rattle.claim.specs.Give.{vetRoom, vettedPut, vettedGiven}
@@ -105,6 +107,41 @@ vet-is g r q ls p l c e h = rw (← h) e
 
 pub summary-is : (g : Given) (s : Summary) (ls c : List ℕ) → g ≡ summaryPut s c → s ≡ summaryOf ls → g ≡ summaryPut (summaryOf ls) c
 summary-is g s ls c p e = rw (← e) p
+
+-- ---- why a fit took its steps
+module _ (b n c q : ℕ) (t : Bool) (e : t ≡ whyRoom b n c q) (h : not t ≡ false) where
+  why-all : (fitRoom b n c && leb 7 q) ≡ true
+  unfolding whyRoom
+  why-all = by-not-true t _ e h
+
+  why-fit : (eqb b 12 && (leb 6 n && leb 10 c)) ≡ true
+  unfolding fitRoom
+  why-fit = left (fitRoom b n c) (leb 7 q) why-all
+
+  pub why-length : b ≡ 12
+  why-length = eqb-true b 12 (left (eqb b 12) (leb 6 n && leb 10 c) why-fit)
+
+  pub why-numbers : 6 ≤ n
+  why-numbers = leb-true 6 n (left (leb 6 n) (leb 10 c) (right (eqb b 12) (leb 6 n && leb 10 c) why-fit))
+
+  pub why-counts : 10 ≤ c
+  why-counts = leb-true 10 c (right (leb 6 n) (leb 10 c) (right (eqb b 12) (leb 6 n && leb 10 c) why-fit))
+
+  pub why-reasons : 7 ≤ q
+  why-reasons = leb-true 7 q (right (fitRoom b n c) (leb 7 q) why-all)
+
+module _ (s : Seen) (b l : List Float) (c q : List ℕ) (t : Bool) (e : t ≡ whyRoom (length b) (length l) (length c) (length q)) where
+  pub why-wrong : not t ≡ true → got 1 l c q ≡ whyGiven s b l c q
+  unfolding whyGiven
+  why-wrong h = else _ _ _ _ (by-not-false t _ e h) refl
+
+  pub why-is : (g : Got) (w : Seen) → not t ≡ false → g ≡ whyPut w l c q → w ≡ s → g ≡ whyGiven s b l c q
+  unfolding whyGiven
+  why-is g w h p k = then _ _ _ _ (by-not-true t _ e h) (rw (← k) p)
+
+-- the request that was built is the one meant
+pub why-asked : (w : Seen) (r p : Request) (ls : List ℕ) (n : ℕ) → w ≡ watchedOf r ls n → r ≡ p → w ≡ watchedOf p ls n
+why-asked w r p ls n e h = rw (← h) e
 
 -- ---- the answer to what a lent state keeps
 module _ (b c o : ℕ) (t : Bool) (e : t ≡ answerRoom b c o) (h : not t ≡ false) where

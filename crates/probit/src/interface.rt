@@ -9,7 +9,8 @@ ghost use mathlib.Core.Path.{_≡_};
 ghost use mathlib.Core.List.{[]};
 ghost use Prim.Native.Nat.{_≤_, _<_};
 ghost use lib.ListN.{length};
-ghost use Rattle.fit.specs.Fit.{fitOf};
+ghost use Rattle.fit.specs.Fit.{fitOf, watchedOf};
+ghost use Rattle.explain.specs.Counts.{got, whyGiven};
 ghost use Rattle.render.specs.Written.{written};
 ghost use Rattle.objective.specs.Objective.{objectiveOf};
 ghost use Rattle.summary.specs.Summary.{summaryOf};
@@ -79,6 +80,31 @@ pub extern "C" fn probit_fit(
     }
     let r = request(bounds, tolerance, evaluations, iterations, quadrature);
     buffers::put_fit(fitted(r, litters), numbers, counts)
+}
+
+// probit_fit, and beside it why the trial of that number, from 1, ended as it did, and what stopped the fit. Answers the ending's number.
+#[no_mangle]
+pub extern "C" fn probit_why(
+    bounds: &[f64],
+    tolerance: f64,
+    evaluations: u64,
+    iterations: u64,
+    quadrature: u64,
+    litters: &[u32],
+    number: u64,
+    numbers: &mut [f64],
+    counts: &mut [u64],
+    reasons: &mut [u64],
+) -> u64
+    ensures { λ r. ⌜ got r (now (numbers .exit)) (now (counts .exit)) (now (reasons .exit)) ≡ whyGiven (watchedOf (requestOf (now (bounds .entry)) tolerance evaluations iterations quadrature) (now (litters .entry)) number) (now (bounds .entry)) (now (numbers .entry)) (now (counts .entry)) (now (reasons .entry)) ⌝ }
+    ensures { λ r. ⌜ (now (bounds .exit) ≡ now (bounds .entry)) × (now (litters .exit) ≡ now (litters .entry)) ⌝ }
+{
+    if !explain::why_room(bounds.len(), numbers.len(), counts.len(), reasons.len()) {
+        return 1;
+    }
+    let r = request(bounds, tolerance, evaluations, iterations, quadrature);
+    let s = fit::report::fit_watched(r, litters, number);
+    explain::put_why(s, numbers, counts, reasons)
 }
 
 // Claimed are two means, two variances and the likelihood. Answers the verdict's number: 0 accepted, 1, 2, 5, 6 or 7.
@@ -240,9 +266,9 @@ pub extern "C" fn probit_counts_fit(
 // The interface's version: 1000 times its first number, and its second.
 #[no_mangle]
 pub extern "C" fn probit_version() -> u64
-    ensures { λ r. ⌜ r ≡ 1007 ⌝ }
+    ensures { λ r. ⌜ r ≡ 1008 ⌝ }
 {
-    1007
+    1008
 }
 
 // A request's bytes in, its answer's bytes out: how many, or 0 where `out` has fewer than 512 bytes, and then it is left as it was.

@@ -14,6 +14,7 @@ use Rattle.descent.specs.Descent.{Problem}
 use Rattle.value.specs.declared.Totals.{Totals}
 use Rattle.value.specs.Totals.{noTotals}
 use Rattle.step.specs.Step.{projectOf, directionOf, candidateOf, slopeOf, stillOf}
+use Rattle.trial.specs.declared.watch.Since.the-variants.{Arrived}
 use Rattle.trial.specs.declared.watch.Watch.{Watch}
 use Rattle.trial.specs.Judged.{normAt, idleOf, judgedOf}
 use Rattle.trial.specs.Watch.{notedOf}
@@ -59,7 +60,7 @@ stateOf status begun next x v e k way alpha left w =
     }
 
 abbrev pub beginOf : List Float → ℕ → Stepper
-beginOf x wanted = stateOf NoStatus false x x noTotals 1 0 x zero· 0 (record { left = wanted; kept = CutOff })
+beginOf x wanted = stateOf NoStatus false x x noTotals 1 0 x zero· 0 (record { left = wanted; kept = CutOff; since = Arrived })
 
 abbrev pub lineOf : List Float → List Float → Totals → ℕ → ℕ → Watch → Stepper
 lineOf way x v e k w = stateOf NoStatus true x x v e k way one· 48 w

@@ -1,6 +1,7 @@
 // The descent, driven from outside: a state by value that awaits the objective's value at a point, or has stopped.
 use descent::Status;
 use descent::Trial;
+use trial::watch::Since;
 use trial::watch::Watch;
 use trial::watch::noted;
 use value::Totals;
@@ -79,6 +80,7 @@ pub fn begin(x: [f64; 4], wanted: u64) -> Stepper
         watch: Watch {
             left: wanted,
             kept: Trial::CutOff,
+            since: Since::Arrived,
         },
     }
 }

@@ -1,4 +1,4 @@
--- The trial that is looked for: what a watch has kept of the trials so far, the newest first, and how many are still to come before it.
+-- The trial that is looked for: what a watch has kept of the trials so far, the newest first, and how many are still to come before it. Beside it, where the search stands.
 use mathlib.Core.Path.{_≡_, refl, _∙_}
 use mathlib.Core.Bool.{cond}
 use mathlib.Core.List.{List, [], _∷_}
@@ -9,16 +9,34 @@ use lib.Dec.{ltb}
 use lib.ListN.{length}
 use Rattle.work.specs.Metered.{split}
 use Rattle.descent.specs.declared.Trial.{Trial}
-use Rattle.descent.specs.declared.Trial.the-variants.{CutOff}
+use Rattle.descent.specs.declared.Trial.the-variants.{NotDownhill, NotMoved, TooLittle, ByDecrease, ByRounding, CutOff}
+use Rattle.trial.specs.declared.watch.Since.{Since}
+use Rattle.trial.specs.declared.watch.Since.the-variants.{Arrived, Missed, Cut}
 use Rattle.trial.specs.declared.watch.Watch.{Watch}
+
+abbrev pub sinceOf : Trial → Since
+sinceOf (NotDownhill s) = Missed
+sinceOf NotMoved = Missed
+sinceOf (TooLittle m) = Missed
+sinceOf (ByDecrease s) = Arrived
+sinceOf (ByRounding a) = Arrived
+sinceOf CutOff = Cut
+
+-- by the newest of the trials so far
+abbrev pub sinceIn : List Trial → Since
+sinceIn [] = Arrived
+sinceIn (t ∷ ts) = sinceOf t
 
 -- a watch that is shown one more trial
 unfoldable pub notedOf : Trial → Watch → Watch
-notedOf t w = cond (ltb (w .left) 1) w (cond (ltb (w .left) 2) (record { left = 0; kept = t }) (record { left = w .left - 1; kept = w .kept }))
+notedOf t w =
+    cond (ltb (w .left) 1) (record { left = w .left; kept = w .kept; since = sinceOf t })
+    (cond (ltb (w .left) 2) (record { left = 0; kept = t; since = sinceOf t })
+    (record { left = w .left - 1; kept = w .kept; since = sinceOf t }))
 
 -- for the n-th trial, after those so far
 unfoldable pub watchOf : ℕ → List Trial → Watch
-watchOf n [] = record { left = n; kept = CutOff }
+watchOf n [] = record { left = n; kept = CutOff; since = Arrived }
 watchOf n (t ∷ ts) = notedOf t (watchOf n ts)
 
 -- the n-th trial, counted from 1, where there are so many
@@ -26,15 +44,15 @@ unfoldable pub trialAt : ℕ → List Trial → Trial
 trialAt n [] = CutOff
 trialAt n (t ∷ ts) = cond (ltb (length ts) n) t (trialAt n ts)
 
-past : (t : Trial) (w : Watch) → w .left ≡ 0 → notedOf t w ≡ w
+past : (t : Trial) (w : Watch) → w .left ≡ 0 → notedOf t w ≡ record { left = w .left; kept = w .kept; since = sinceOf t }
 unfolding notedOf
 past t w h = rw (lt-ltb (w .left) 1 (omega arith))
 
-hit : (t : Trial) (w : Watch) → w .left ≡ 1 → notedOf t w ≡ record { left = 0; kept = t }
+hit : (t : Trial) (w : Watch) → w .left ≡ 1 → notedOf t w ≡ record { left = 0; kept = t; since = sinceOf t }
 unfolding notedOf
 hit t w h = rw (le-ltb (w .left) 1 (omega arith), lt-ltb (w .left) 2 (omega arith))
 
-counts : (t : Trial) (w : Watch) → 2 ≤ w .left → notedOf t w ≡ record { left = w .left - 1; kept = w .kept }
+counts : (t : Trial) (w : Watch) → 2 ≤ w .left → notedOf t w ≡ record { left = w .left - 1; kept = w .kept; since = sinceOf t }
 unfolding notedOf
 counts t w h = rw (le-ltb (w .left) 1 (omega arith), le-ltb (w .left) 2 (omega arith))
 
@@ -62,3 +80,13 @@ watch-kept n (t ∷ ts) h k =
     split (ltb (length ts) n)
     (λ b. let z : watchOf n ts .left ≡ 1 = omega (arith, ltb-true (length ts) n b) in rw (b, hit t (watchOf n ts) z))
     (λ b. let z : watchOf n ts .left ≡ 0 = omega (arith, ltb-false (length ts) n b) in rw (b, past t (watchOf n ts) z) (watch-kept n ts h (ltb-false (length ts) n b)))
+
+-- where the search stands
+noted-since : (t : Trial) (w : Watch) → notedOf t w .since ≡ sinceOf t
+unfolding notedOf
+noted-since t w = split (ltb (w .left) 1) (λ b. rw b) (λ b. split (ltb (w .left) 2) (λ d. rw (b, d)) (λ d. rw (b, d)))
+
+pub watch-since : (n : ℕ) (ts : List Trial) → watchOf n ts .since ≡ sinceIn ts
+unfolding watchOf
+watch-since n [] = refl
+watch-since n (t ∷ ts) = noted-since t (watchOf n ts)

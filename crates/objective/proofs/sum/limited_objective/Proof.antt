@@ -1,8 +1,7 @@
--- `sum::limited_objective` meets its contract, by its tests and its callees' contracts.
+-- `sum::limited_objective` meets its contract, by its callee's.
 use mathlib.Core.Path.{refl}
-use Rattle.objective.proofs.Laws.{limited-point, limited-litters, limited-goes}
+use Rattle.objective.specs.Named.{the-objective}
 use borrow.Author.Needs.{needs}
-use Rattle.num.specs.Choose.{choose}
 use Rattle.objective.proofs.sum.limited_objective.Statement.{statement}
 use Rattle.objective.proofs.sum.limited_objective.Tie as tie
 
@@ -11,10 +10,4 @@ limited-objective-spec =
     tie.close
     (tie.spec
     (λ c κs. search needs)
-    (λ c κs. search needs)
-    (λ c. (search (limited-point, choose), refl))
-    (λ c κs. search needs)
-    (λ c κs. search needs)
-    (λ c. (search (limited-litters, choose) fits 8000 depth 8, refl))
-    (λ c κs. search needs)
-    (λ c. (search (limited-goes, choose) fits 8000 depth 8, refl)))
+    (λ c. (the-objective _ _ _ _ _ (c .before .named-objective .ensures .0), refl)))

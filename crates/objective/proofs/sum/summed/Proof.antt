@@ -4,7 +4,7 @@ use Prim.Native.Nat.{_+_, _-_, _/_, _≤_, zero-le}
 use native.Mathlib.Nat.{sub-zero}
 use native.Mathlib.Omega.{arith}
 use lib.ListN.{length}
-use Rattle.objective.specs.Objective.{rowsFrom, summedOf}
+use Rattle.objective.specs.Named.{namedFrom, summedOf}
 use Rattle.objective.proofs.Laws.{row-fits, rows-stops, rows-turn, rows-done}
 use borrow.Author.Needs.{needs}
 use Rattle.num.specs.Choose.{choose, by-call}
@@ -12,7 +12,7 @@ use Rattle.objective.proofs.sum.summed.Statement.{statement}
 use Rattle.objective.proofs.sum.summed.Tie as tie
 
 abbrev Inv-loop : tie.InvT-loop
-Inv-loop rule x litters limit n used₀ t₀ i₀ used t i = (used ≤ limit) × (n ≡ length litters / 3) × (rowsFrom rule x litters limit used (n - i) i t ≡ summedOf rule x litters limit)
+Inv-loop rule x litters limit n used₀ t₀ i₀ used t i = (used ≤ limit) × (n ≡ length litters / 3) × (namedFrom rule x litters limit used (n - i) i t ≡ summedOf rule x litters limit)
 
 abbrev μ-loop : tie.MeasureT-loop
 μ-loop rule x litters limit n used₀ t₀ i₀ used t i = n - i
@@ -47,6 +47,7 @@ summed-spec =
     Inv-loop
     μ-loop
     loop-holds
+    (λ c. omega arith)
     (λ c. search needs)
     (λ c κs. omega arith)
     add-used

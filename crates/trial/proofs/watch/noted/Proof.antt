@@ -1,5 +1,6 @@
 -- `watch::noted` meets its contract, by its tests.
 use Rattle.trial.specs.Watch.{notedOf}
+use borrow.Author.Needs.{needs}
 use Rattle.num.specs.Choose.{choose}
 use Rattle.trial.proofs.watch.noted.Statement.{statement}
 use Rattle.trial.proofs.watch.noted.Tie as tie
@@ -9,6 +10,7 @@ unfolding notedOf
 noted-spec =
     tie.close
     (tie.spec
-    (λ c. search choose)
-    (λ c. search choose)
-    (λ c. search choose))
+    (λ c κs. search needs)
+    (λ c. rw (c .before .by-newest .ensures) (search choose))
+    (λ c. rw (c .before .before .by-newest .ensures) (search choose))
+    (λ c. rw (c .before .before .by-newest .ensures) (search choose)))
