@@ -340,7 +340,8 @@ static void too_long(void) {
     size_t bytes = sizeof(uint32_t) * lengths[1];
     void *none = mmap(NULL, bytes, PROT_NONE, MAP_PRIVATE | MAP_ANONYMOUS | MAP_NORESERVE, -1, 0);
     double numbers[PROBIT_FIT_NUMBERS];
-    uint64_t counts[PROBIT_FIT_COUNTS];
+    static const double claimed[PROBIT_CLAIM];
+    uint64_t counts[PROBIT_FIT_COUNTS], reasons[PROBIT_WHY];
     uint8_t out[PROBIT_TEXT];
     if (none == MAP_FAILED)
         perror("short: mmap"), exit(2);
@@ -348,6 +349,8 @@ static void too_long(void) {
         size_t n = lengths[i];
         expect(probit_fit(bounds, PROBIT_BOUNDS, 1e-6, 10, 10, 4, none, n, numbers, PROBIT_FIT_NUMBERS, counts, PROBIT_FIT_COUNTS) == PROBIT_INVALID_INPUT, "probit_fit", n, 0, 0, 0);
         expect(probit_objective(point, PROBIT_POINT, none, n, numbers, PROBIT_OBJECTIVE_NUMBERS, counts, PROBIT_OBJECTIVE_COUNTS) == PROBIT_INVALID_INPUT, "probit_objective", n, 0, 0, 0);
+        expect(probit_why(bounds, PROBIT_BOUNDS, 1e-6, 10, 10, 4, none, n, 1, numbers, PROBIT_FIT_NUMBERS, counts, PROBIT_FIT_COUNTS, reasons, PROBIT_WHY) == PROBIT_INVALID_INPUT, "probit_why", n, 0, 0, 0);
+        expect(probit_vet(bounds, PROBIT_BOUNDS, 1e-6, 10, 10, 4, none, n, claimed, PROBIT_CLAIM, numbers, PROBIT_VET_NUMBERS, counts, PROBIT_VET_COUNTS) == PROBIT_INVALID_INPUT, "probit_vet", n, 0, 0, 0);
         expect(probit_summary(none, n, counts, PROBIT_SUMMARY_COUNTS) == PROBIT_INVALID_INPUT, "probit_summary", n, 0, 0, 0);
     }
     for (int i = 0; i < 2; i++) {

@@ -11,17 +11,18 @@ use lib.Seq.{take-length}
 use lib.Ieee.{Float}
 use Rattle.num.specs.Choose.{then, else, by-not-false, by-not-true}
 use Rattle.work.specs.Metered.{split}
-use Rattle.objective.specs.Litters.{countOf}
-use Rattle.objective.specs.Refused.{none-invalid}
+use Rattle.objective.specs.Litters.{countOf, validLitters}
+use Rattle.objective.specs.Refused.{third-false, none-invalid, many-invalid}
 use Rattle.litters.specs.Litters.{handedOn}
 use Rattle.objective.specs.declared.sum.Objective.{Objective}
 use Rattle.objective.specs.Objective.{objectiveOf}
 use Rattle.summary.specs.declared.Summary.{Summary}
 use Rattle.summary.specs.Summary.{summaryOf}
 use Rattle.request.specs.declared.Request.{Request}
+use Rattle.request.specs.Request.{validBoxes, validControls, validLimit, twoEach, admits}
 use Rattle.fit.specs.declared.report.Fit.{Fit}
 use Rattle.fit.specs.declared.report.Seen.{Seen}
-use Rattle.fit.specs.Fit.{fitOf, watchedOf}
+use Rattle.fit.specs.Fit.{fitOf, whyFor, stopFor, unfitOf, watchedOf}
 use Rattle.explain.specs.Counts.{Got, got, whyRoom, whyPut, whyGiven}
 use Rattle.fit.specs.Refused.{invalid-refused, many-refused}
 use Rattle.buffers.specs.Buffers.{Given, given, fitRoom, fitPut, objectivePut, summaryPut}
@@ -94,6 +95,22 @@ handed-on r ls k e =
     split (leb (countOf ls) 128)
     (λ b. rw (e, b, take-length ls))
     (λ b. rw (e, b) (invalid-refused r [] none-invalid ∙ sym (many-refused r ls (leb-false (countOf ls) 128 b))))
+
+-- the same with a trial watched
+module _ (r : Request) (ls : List ℕ) (n : ℕ) (h : validLitters ls ≡ false) where
+  unadmitted : admits r ls ≡ false
+  unfolding admits
+  unadmitted = third-false (validBoxes r) (validControls r) (validLitters ls) (twoEach ls) h
+
+  invalid-watched : watchedOf r ls n ≡ unfitOf
+  unfolding watchedOf whyFor stopFor
+  invalid-watched = split (validLimit (r .quadrature .0)) (λ t. rw (t, unadmitted, invalid-refused r ls h)) (λ t. rw (t, invalid-refused r ls h))
+
+pub watched-on : (r : Request) (ls : List ℕ) (n k : ℕ) → k ≡ handedOn (length ls) → watchedOf r (take k ls) n ≡ watchedOf r ls n
+watched-on r ls n k e =
+    split (leb (countOf ls) 128)
+    (λ b. rw (e, b, take-length ls))
+    (λ b. rw (e, b) (invalid-watched r [] n none-invalid ∙ sym (invalid-watched r ls n (many-invalid ls (leb-false (countOf ls) 128 b)))))
 
 -- ---- what is put is the definition's answer
 pub fit-is : (g : Given) (f : Fit) (r q : Request) (ls : List ℕ) (l : List Float) (c : List ℕ) → g ≡ fitPut f l c → f ≡ fitOf r ls → r ≡ q → g ≡ fitPut (fitOf q ls) l c

@@ -1,5 +1,6 @@
 // The functions for C and Rust, in the static library. include/probit.h says how to call each.
 use fit::Fit;
+use fit::report::Seen;
 use request::Bounds;
 use request::Request;
 use work::FitEvaluations;
@@ -82,6 +83,13 @@ pub extern "C" fn probit_fit(
     buffers::put_fit(fitted(r, litters), numbers, counts)
 }
 
+fn watched(r: Request, litters: &[u32], number: u64) -> Seen
+    ensures { λ s. ⌜ (s ≡ watchedOf r (now (litters .entry)) number) × (now (litters .exit) ≡ now (litters .entry)) ⌝ }
+{
+    let k = litters::handed_on(litters.len());
+    fit::report::fit_watched(r, &litters[..k], number)
+}
+
 // probit_fit, and beside it why the trial of that number, from 1, ended as it did, and what stopped the fit. Answers the ending's number.
 #[no_mangle]
 pub extern "C" fn probit_why(
@@ -103,7 +111,7 @@ pub extern "C" fn probit_why(
         return 1;
     }
     let r = request(bounds, tolerance, evaluations, iterations, quadrature);
-    let s = fit::report::fit_watched(r, litters, number);
+    let s = watched(r, litters, number);
     explain::put_why(s, numbers, counts, reasons)
 }
 
