@@ -16,14 +16,14 @@ use Rattle.work.specs.Work.{ret, run, metered, told}
 use Rattle.work.specs.Metered.{split, after}
 use Rattle.work.specs.Given.{of-run}
 use Rattle.work.specs.Asks.{answers}
-use Rattle.work.specs.Through.{Driven, driven, driven-is}
+use Rattle.work.specs.Through.{Open, none, refused, Driven, driven, driven-is}
 use Rattle.planar.specs.declared.Planar.{Planar}
 use Rattle.planar.specs.Planar.{noPlanar}
 use Rattle.descent.specs.declared.Trial.{Trial}
 use Rattle.descent.specs.declared.Trial.the-variants.{ByRounding}
 use Rattle.descent.specs.Descent.{Asked, Descended, descent}
-use Rattle.descent.specs.Claims.{roundingsOf, raisedBy, Among, Descends, Rounded, unraised, carried, led-evaluated, rounding-step, at-most-raised, descends-by-trials}
-use Rattle.descent.specs.Points.{Place, place, pointsIn, point-value, of-driven}
+use Rattle.descent.specs.Claims.{roundingsOf, raisedBy, Among, Descends, Rounded, unraised, carried, led-evaluated, rounding-step, none-among, at-most-raised, descends-by-trials}
+use Rattle.descent.specs.Points.{Place, place, pointsIn, point-value, of-driven, of-refused}
 use Rattle.exposure.specs.declared.request.Request.{Request}
 use Rattle.exposure.specs.Request.{admits}
 use Rattle.counts.specs.Known.{Known, nll-finite, evaluate-known}
@@ -40,14 +40,16 @@ startingOf r cs es = valueOr noPlanar (run logOf (valueAt cs es (startOf r))) .n
 unfoldable pub descentOf : Request → List ℕ → List Float → Driven (Asked Spot) (Descended Spot Planar)
 descentOf r cs es = driven logOf (λ q. valueAt cs es (q .at)) enough 0 (descent (planeOf (planeFor r)) (startOf r))
 
-abbrev trialsAt : Ended (Descended Spot Planar) → List Trial
-trialsAt (done d) = d .trials
-trialsAt (stopped r) = []
-trialsAt short = []
+abbrev trialsAt : Ended (Descended Spot Planar) → Open (Asked Spot) → List Trial
+trialsAt (done d) q = d .trials
+trialsAt (stopped r) none = []
+trialsAt (stopped r) (refused q) = q .trials
+trialsAt short none = []
+trialsAt short (refused q) = q .trials
 
--- the trials of an answered fit, the newest first
+-- its trials before the end, the newest first
 unfoldable pub trialsOf : Request → List ℕ → List Float → List Trial
-trialsOf r cs es = trialsAt (descentOf r cs es .ended)
+trialsOf r cs es = trialsAt (descentOf r cs es .ended) (descentOf r cs es .asked)
 
 -- the points at which the objective was evaluated, each with the value that its definition has there
 unfoldable pub pointsOf : Request → List ℕ → List Float → List (Place Spot Planar)
@@ -105,14 +107,35 @@ module _ (r : Request) (cs : List ℕ) (es : List Float) where
     pub value : run logOf (valueAt cs es (d .x)) ≡ done (d .v)
     pub report : f ≡ toFit Answered (f .passes .0) (reportOf r (length cs) d)
 
+  -- ---- of every descent, refused or not
+  led-to : (d : Descended Spot Planar) → descentOf r cs es .ended ≡ done d → Descends (planeOf (planeFor r)) Visited (startOf r) d
+  unfolding descentOf pointsOf
+  led-to d e = of-driven logOf (valueAt cs es) enough (pointsOf r cs es) 0 d (answers (descends-by-trials (planeOf (planeFor r)) Visited (startOf r))) (λ y m. m) e
+
+  refused-rounding : (q : Asked Spot) → descentOf r cs es .asked ≡ refused q → (a : Float) → Among (ByRounding a) (q .trials) → Rounded (planeOf (planeFor r)) Visited a
+  unfolding descentOf pointsOf
+  refused-rounding q e = of-refused logOf (valueAt cs es) enough (pointsOf r cs es) 0 q (descends-by-trials (planeOf (planeFor r)) Visited (startOf r)) (λ y m. m) e
+
+  by-ended : (e : Ended (Descended Spot Planar)) (q : Open (Asked Spot)) → descentOf r cs es .ended ≡ e → descentOf r cs es .asked ≡ q → (a : Float) → Among (ByRounding a) (trialsAt e q) → Rounded (planeOf (planeFor r)) Visited a
+  by-ended (done d) q h k a m = let l = led-to d h in rounding-step (planeOf (planeFor r)) Visited (startOf r) (l .start) (l .evaluated) a (l .led) m
+  by-ended (stopped w) none h k a m = none-among (ByRounding a) _ refl m
+  by-ended (stopped w) (refused q) h k a m = refused-rounding q k a m
+  by-ended short none h k a m = none-among (ByRounding a) _ refl m
+  by-ended short (refused q) h k a m = refused-rounding q k a m
+
+  -- A step by the rounding rule, of allowance a, was between two evaluated points, and ends at no more than the f64 sum of the likelihood before it and a;
+  -- of a refused fit too, whose trials are those before its refusal.
+  pub fit-rounding-step : (a : Float) → Among (ByRounding a) (trialsOf r cs es) → Rounded (planeOf (planeFor r)) Visited a
+  unfolding trialsOf
+  fit-rounding-step a m = by-ended (descentOf r cs es .ended) (descentOf r cs es .asked) refl refl a m
+
   module _ (h : fitOf r cs es .end ≡ Answered) where
     led : Descends (planeOf (planeFor r)) Visited (startOf r) (ends h .d)
-    unfolding descentOf pointsOf
-    led = of-driven logOf (valueAt cs es) enough (pointsOf r cs es) 0 (ends h .d) (answers (descends-by-trials (planeOf (planeFor r)) Visited (startOf r))) (λ y m. m) (ends h .ended)
+    led = led-to (ends h .d) (ends h .ended)
 
     trials-are : trialsOf r cs es ≡ ends h .d .trials
     unfolding trialsOf
-    trials-are = ap trialsAt (ends h .ended)
+    trials-are = ap (λ e. trialsAt e (descentOf r cs es .asked)) (ends h .ended)
 
     nll-is : fitOf r cs es .nll ≡ ends h .d .v .nll
     nll-is = ap (λ f. f .nll) (ends h .is)
@@ -136,10 +159,6 @@ module _ (r : Request) (cs : List ℕ) (es : List Float) where
     -- Where no step was taken by the rounding rule, it is at most the start's.
     pub fit-not-worse : roundingsOf (trialsOf r cs es) ≡ 0 → le (fitOf r cs es .nll) (startingOf r cs es) ≡ true
     fit-not-worse z = let k = fit-at-most in rw (unraised (trialsOf r cs es) (startingOf r cs es) z) at k
-
-    -- A step by the rounding rule, of allowance a, was between two evaluated points, and ends at no more than the f64 sum of the likelihood before it and a.
-    pub fit-rounding-step : (a : Float) → Among (ByRounding a) (trialsOf r cs es) → Rounded (planeOf (planeFor r)) Visited a
-    fit-rounding-step a m = rounding-step (planeOf (planeFor r)) Visited (startOf r) (led .start) (led .evaluated) a (led .led) (rw trials-are at m)
 
     -- The reported point is one that was evaluated, with the value it had.
     pub fit-visited : Reports (fitOf r cs es)
