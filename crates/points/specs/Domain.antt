@@ -1,0 +1,22 @@
+-- No request of counts per exposure is known that ends in Domain; the objective at a coordinate that is no number does, with its pass counted.
+use mathlib.Core.Path.{_≡_, refl}
+use mathlib.Core.List.{[], _∷_}
+use lib.Ieee.{nan, add, sub, mul, div, neg, lt, le, eq, ne, ofBits, toBits, ofInt}
+use Rattle.num.specs.F64.{zero·, one·}
+use Rattle.num.specs.Helpers.{isFinite}
+use Rattle.work.specs.declared.Ending.the-variants.{Domain}
+use Rattle.elementary.specs.Exp.{expOf}
+use Rattle.elementary.specs.Log.{logOf, logParts}
+use Rattle.elementary.specs.Log1p.{log1pOf}
+use Rattle.elementary.specs.Lgamma.{lgammaOf, lgammaByProduct, productOf, productFrom}
+use Rattle.tables.specs.Log.{logRow, logRows}
+use Rattle.factorial.specs.Factorial.{logFactorialOf}
+use Rattle.planar.specs.Planar.{noPlanar}
+use Rattle.exposure.specs.Rows.{eventsFrom, eventsOf}
+use Rattle.counts.specs.Share.{softplusOf, oddsOf, rowOf, risingFrom, risingOf, withRow}
+use Rattle.counts.specs.Rows.{finiteOf, rowsFrom, totalsOf}
+use Rattle.counts.specs.Objective.{valueOf}
+
+pub counts-domain : valueOf zero· nan (1 ∷ []) (one· ∷ []) ≡ record { end = Domain 6; passes = 1; v = noPlanar }
+unfolding valueOf finiteOf totalsOf rowsFrom withRow rowOf risingOf risingFrom oddsOf softplusOf eventsOf eventsFrom isFinite expOf logOf log1pOf logParts logRow logRows logFactorialOf lgammaOf lgammaByProduct productOf productFrom add sub mul div neg lt le eq ne ofBits toBits ofInt
+counts-domain = refl
