@@ -8,8 +8,9 @@ use qspquest_core::probit_fit::{
 use qspquest_core::Error;
 use std::hint::black_box;
 
-/// Of the Rust over libm 0.2.1, and of the Rust over our functions.
-const TARGETS: [f64; 2] = [0.55, 1.];
+/// Of the Rust over libm 0.2.1, up to 50 pups a litter and beyond, and of the Rust over our functions.
+const OF_LIBM: [f64; 2] = [0.30, 0.35];
+const OF_OURS: f64 = 0.55;
 /// Of a fit of 32 litters: reading and printing.
 const AROUND: f64 = 0.01;
 
@@ -166,13 +167,20 @@ fn three(c: &Case, rounds: usize) -> ([f64; 3], u64) {
     (t, count)
 }
 
-fn print(c: &Case, t: [f64; 3], count: u64) {
+/// Prints a case of litters of at most so many pups, and whether a target is missed.
+fn missed(c: &Case, pups: u32, t: [f64; 3], count: u64) -> bool {
     let e = t.map(|s| 1e9 * s / count as f64);
     let m = t.map(|s| 1e3 * s);
     println!(
         "{:<30} {count:>8} {:>9.3} {:>9.3} {:>9.3} {:>8.1} {:>7.1} {:>7.1} {:>9.3} {:>8.3}",
         c.name, m[0], m[1], m[2], e[0], e[1], e[2], t[0] / t[1], t[0] / t[2]
     );
+    let of_libm = OF_LIBM[usize::from(pups > 50)];
+    let slow = t[0] > of_libm * t[1] || t[0] > OF_OURS * t[2];
+    if slow {
+        println!("  missed: at most {of_libm} of the Rust over libm 0.2.1 and {OF_OURS} of the Rust over ours");
+    }
+    slow
 }
 
 fn main() {
@@ -182,15 +190,14 @@ fn main() {
         [n] => n.parse().unwrap_or_else(|_| fail("usage: fits [ROUNDS]")),
         _ => fail("usage: fits [ROUNDS]"),
     };
-    let mut missed = false;
+    let mut late = false;
     println!("                                         ms a fit                     ns an evaluation         ours of    ours of");
     println!("                                  count      ours rust+libm rust+ours     ours    libm    ours rust+libm rust+ours");
     let mut around = 0.;
     for number in [4, 32, 128] {
         let c = case(&format!("{number} litters of 5 to 13"), number, 5, 13);
         let (t, count) = three(&c, rounds);
-        print(&c, t, count);
-        missed |= t[0] > TARGETS[0] * t[1] || t[0] > TARGETS[1] * t[2];
+        late |= missed(&c, 13, t, count);
         if number == 32 {
             around = t[0];
             // The whole text is read, and the last check breached: no evaluation. Then one evaluation, and a refusal.
@@ -210,7 +217,7 @@ fn main() {
                 println!("  {what}: {:.2} us, {:.3} percent of the fit", 1e6 * s, 100. * s / around);
                 if s > AROUND * around {
                     println!("  missed: it is to stay below one percent");
-                    missed = true;
+                    late = true;
                 }
             }
         }
@@ -228,13 +235,13 @@ fn main() {
     println!("how it grows");
     for number in [8, 16, 64] {
         let c = case(&format!("{number} litters of 5 to 13"), number, 5, 13);
-        let (t, count) = three(&c, rounds.min(3));
-        print(&c, t, count);
+        let (t, count) = three(&c, rounds);
+        late |= missed(&c, 13, t, count);
     }
     for pups in [2, 5, 20, 50, 100] {
         let c = case(&format!("32 litters of {pups}"), 32, pups, pups);
-        let (t, count) = three(&c, rounds.min(3));
-        print(&c, t, count);
+        let (t, count) = three(&c, rounds);
+        late |= missed(&c, pups, t, count);
     }
     println!("panels a side at the last rule, 32 litters, one objective call: us a litter, ours, rust+libm, rust+ours");
     for (panels, mean, sd, successes, total) in [(4, 0., 0.1, 1, 2), (8, 0., 1., 10, 20), (16, 0., 1., 75, 150), (32, 0., 1., 100, 200), (128, 0., 2., 100, 200)] {
@@ -257,8 +264,8 @@ fn main() {
         let note = if theirs == each { String::new() } else { format!("  (libm 0.2.1 takes {theirs})") };
         println!("  {panels:>4} panels, {each:>6} evaluations a litter ({total} pups, SD {sd}): {o:>9.1} {p:>9.1} {b:>9.1}{note}");
     }
-    if missed {
-        println!("missed: ours is to take at most {} of the Rust over libm 0.2.1 and less than the Rust over our functions", TARGETS[0]);
+    if late {
+        println!("missed: a target, at the lines above that say so");
         std::process::exit(1);
     }
 }

@@ -9,7 +9,7 @@ crate = here.parent / "crates" / "tables"
 
 
 class Table:
-    def __init__(self, module, name, index, fields, says):
+    def __init__(self, module, name, index, fields, says, lanes=False):
         self.module = module
         self.name = name  # in coefficients.txt
         self.index = index
@@ -17,6 +17,7 @@ class Table:
         self.says = says
         self.title = module.capitalize()
         self.kind = self.title + "Row"
+        self.functions = [module + "_row"] + ([module + "_lane_row"] if lanes else [])
 
     def rows(self):
         words = [line.split() for line in (here / "coefficients.txt").read_text().splitlines()]
@@ -26,13 +27,21 @@ class Table:
 
 
 TABLES = [
-    Table("exp", "EXP_T", "i", ["value", "rest"], "Row i is for 2^(i/64): `value` is the nearest f64, and `rest` what its rounding lost, relative to it."),
+    Table(
+        "exp",
+        "EXP_T",
+        "i",
+        ["value", "rest"],
+        "Row i is for 2^(i/64): `value` is the nearest f64, and `rest` what its rounding lost, relative to it.",
+        lanes=True,
+    ),
     Table(
         "log",
         "LOG_T",
         "j",
         ["centre", "inverse", "high", "low"],
         "Row j is for the j-th of 64 parts of the numbers from 0.698 to 1.396: a centre, its inverse, and its log as `high` + `low`.",
+        lanes=True,
     ),
     Table(
         "erfc",
@@ -76,7 +85,15 @@ def source(t, rows):
     yield from constant("NONE", t, ["0.0"] * len(t.fields))
     yield "// A `match` compiles to one load for a field; an array would be built anew at each call."
     yield "// Call it from one place only: else it is not inlined, and the whole row goes by way of the stack."
-    yield "pub fn %s_row(%s: u64) -> %s" % (t.module, t.index, t.kind)
+    yield from function(t, rows, t.functions[0])
+    for name in t.functions[1:]:
+        yield ""
+        yield "// The same for many numbers at once, whose one place is another."
+        yield from function(t, rows, name)
+
+
+def function(t, rows, name):
+    yield "pub fn %s(%s: u64) -> %s" % (name, t.index, t.kind)
     yield "    ensures { λ r. ⌜ r ≡ %sRow %s ⌝ }" % (t.module, t.index)
     yield "{"
     yield "    match %s {" % t.index
@@ -108,9 +125,10 @@ def spec(t, rows):
     yield "%sRow %s = getD %sRows %s noRow" % (t.module, t.index, t.module, t.index)
 
 
-def proof(t, rows):
-    at = "Rattle.tables.proofs.%s.%s_row" % (t.module, t.module)
-    yield "-- `tables::%s_row` meets its contract: each arm by its key, the last by `past`." % t.module
+def proof(t, rows, name):
+    at = "Rattle.tables.proofs.%s.%s" % (t.module, name)
+    spec = name.replace("_", "-") + "-spec"
+    yield "-- `tables::%s` meets its contract: each arm by its key, the last by `past`." % name
     yield "-- Written by tools/tables.py."
     yield "use mathlib.Core.Path.{refl}"
     yield "use Rattle.tables.specs.%s.{%sRow, %sRows}" % (t.title, t.module, t.module)
@@ -118,9 +136,9 @@ def proof(t, rows):
     yield "use %s.Statement.{statement}" % at
     yield "use %s.Tie as tie" % at
     yield ""
-    yield "pub %s-row-spec : {M : Type 1} → statement M" % t.module
+    yield "pub %s : {M : Type 1} → statement M" % spec
     yield "unfolding %sRow %sRows" % (t.module, t.module)
-    yield "%s-row-spec =" % t.module
+    yield "%s =" % spec
     yield "    tie.close"
     yield "    (tie.spec"
     yield from ("    (λ c. at %sRows _ _ %d (c .match .keys%d) refl)" % (t.module, k, k + 1) for k in range(len(rows)))
@@ -137,4 +155,5 @@ if __name__ == "__main__":
         rows = t.rows()
         write(crate / "src" / (t.module + ".rt"), source(t, rows))
         write(crate / "specs" / (t.title + ".antt"), spec(t, rows))
-        write(crate / "proofs" / t.module / (t.module + "_row") / "Proof.antt", proof(t, rows))
+        for name in t.functions:
+            write(crate / "proofs" / t.module / name / "Proof.antt", proof(t, rows, name))

@@ -1,9 +1,10 @@
 -- The exponential, step by step. A NaN fails both tests of `expOf`, and comes through the series.
 use mathlib.Core.Bool.{cond}
-use Prim.Native.Nat.{ℕ, _-_, _*_, _/_, _%_, _^_}
+use Prim.Native.Nat.{ℕ, _+_, _-_, _*_, _/_, _%_, _^_}
 use lib.Dec.{ltb}
 use lib.Ieee.{Float, neg, lt}
 use Rattle.num.specs.F64.{_⊕_, _⊖_, _⊗_, bits, bitsOf, zero·, one·, infinity·}
+use Rattle.tables.specs.declared.exp.ExpRow.{ExpRow}
 use Rattle.tables.specs.Exp.{expRow}
 
 -- 64 / ln 2
@@ -97,6 +98,14 @@ expSmall x =
 abbrev pub expReduced : Float → Float → Float
 expReduced x w = let n = w ⊖ exp-m in (x ⊖ n ⊗ exp-l1) ⊖ n ⊗ exp-l2
 
+-- exp r - 1, and the row's rest with it
+abbrev pub expPoly : Float → Float → Float
+expPoly rest r = let z = r ⊗ r in ((rest ⊕ r) ⊕ z ⊗ (exp-c2 ⊕ r ⊗ exp-c3)) ⊕ (z ⊗ z) ⊗ (exp-c4 ⊕ r ⊗ exp-c5)
+
+-- t (1 + p), the scale put on t first
+abbrev pub expScaled : Float → Float → Float → Float
+expScaled t scale p = let s = t ⊗ scale in s ⊕ s ⊗ p
+
 -- near underflow and overflow 2^(e - 2048) is put on in two steps, the first of them exact; the two tests are never met (e is 971 to 3072) and keep the steps total
 unfoldable pub expFar : Float → Float → ℕ → Float
 expFar t p e =
@@ -109,10 +118,8 @@ unfoldable pub expFinish : ℕ → Float → Float
 expFinish m r =
     let row = expRow (m % 64) in
     let e = m / 64 in
-    let z = r ⊗ r in
-    let p = ((row .rest ⊕ r) ⊕ z ⊗ (exp-c2 ⊕ r ⊗ exp-c3)) ⊕ (z ⊗ z) ⊗ (exp-c4 ⊕ r ⊗ exp-c5) in
-    let s = row .value ⊗ bits ((e - 1025) * 2 ^ 52) in
-    cond (ltb e 1100) (expFar (row .value) p e) (cond (ltb 3070 e) (expFar (row .value) p e) (s ⊕ s ⊗ p))
+    let p = expPoly (row .rest) r in
+    cond (ltb e 1100) (expFar (row .value) p e) (cond (ltb 3070 e) (expFar (row .value) p e) (expScaled (row .value) (bits ((e - 1025) * 2 ^ 52)) p))
 
 abbrev pub expSum : Float → Float
 expSum x = x ⊗ exp-inv ⊕ exp-m
@@ -136,3 +143,11 @@ three-eighths = bits 0x3fd8_0000_0000_0000
 
 unfoldable pub expOf : Float → Float
 expOf x = cond (lt x (neg three-eighths)) (expBelow x) (cond (lt three-eighths x) (expAbove x) (expSmall x))
+
+-- For many numbers at once, in two parts with the table's row between them: a number's place, which is n + 131072, or 0 past a cut,
+unfoldable pub expPlace : Float → ℕ
+expPlace x = let w = expSum x in cond {A = ℕ} (lt exp-low w) (cond {A = ℕ} (lt w exp-high) (expWhole w) 0) 0
+
+-- and the exponential by the place m and its row, where `expFinish` does not go to `expFar`; the scale is a number at any m
+unfoldable pub expByRow : Float → ℕ → ExpRow → Float
+expByRow x m row = expScaled (row .value) (bits ((m / 64 + 1023) % 2048 * 2 ^ 52)) (expPoly (row .rest) (expReduced x (expSum x)))

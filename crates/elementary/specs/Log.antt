@@ -4,6 +4,7 @@ use Prim.Native.Nat.{ℕ, _+_, _-_, _*_, _/_, _%_, _^_}
 use lib.Count.{leadingZeros}
 use lib.Ieee.{Float, nan, neg, lt, eq}
 use Rattle.num.specs.F64.{_⊕_, _⊖_, _⊗_, whole, bits, bitsOf, zero·, infinity·}
+use Rattle.tables.specs.declared.log.LogRow.{LogRow}
 use Rattle.tables.specs.Log.{logRow}
 use Rattle.elementary.specs.declared.log_parts.LogParts.{LogParts}
 
@@ -45,14 +46,11 @@ abbrev pub log-c7 : Float
 log-c7 = bits 0x3fc2_49a0_e4e3_5109
 
 -- The number with the bits b, its exponent counted from sub, is z 2^k; its logarithm is k ln 2, the row's, and that of z / centre.
--- The sum of what is a multiple of 2^-42 is exact: that is `hi`, and `lo` is the rest.
-unfoldable pub logParts : ℕ → Float → LogParts
-logParts b sub =
-    let t = b + log-d in
-    let frac = t % 2 ^ 52 in
+-- The sum of what is a multiple of 2^-42 is exact: that is `hi`, and `lo` is the rest. t is b + log-d.
+abbrev pub logAt : ℕ → Float → LogRow → LogParts
+logAt t sub row =
     let k = whole (t / 2 ^ 52) ⊖ sub in
-    let row = logRow (frac / 2 ^ 46) in
-    let z = bits (frac + log-off) in
+    let z = bits (t % 2 ^ 52 + log-off) in
     let d = z ⊖ row .centre in
     let p = d ⊗ row .inverse in
     let rh = (p ⊕ log-m) ⊖ log-m in
@@ -60,6 +58,13 @@ logParts b sub =
     let q = p ⊗ p in
     let g = q ⊗ (((log-c2 ⊕ p ⊗ log-c3) ⊕ q ⊗ (log-c4 ⊕ p ⊗ log-c5)) ⊕ (q ⊗ q) ⊗ (log-c6 ⊕ p ⊗ log-c7)) in
     record { hi = (k ⊗ log-l1 ⊕ row .high) ⊕ rh; lo = ((k ⊗ log-l2 ⊕ row .low) ⊕ rl) ⊕ g }
+
+-- the row for t
+abbrev pub logRowAt : ℕ → LogRow
+logRowAt t = logRow (t % 2 ^ 52 / 2 ^ 46)
+
+unfoldable pub logParts : ℕ → Float → LogParts
+logParts b sub = let t = b + log-d in logAt t sub (logRowAt t)
 
 abbrev pub logSum : LogParts → Float
 logSum p = p .hi ⊕ p .lo
@@ -82,3 +87,11 @@ least-normal = bits 0x0010_0000_0000_0000
 -- a NaN and plus infinity fail both tests
 unfoldable pub logOf : Float → Float
 logOf x = cond (lt x least-normal) (logSmall x) (cond (lt x infinity·) (logSum (logParts (bitsOf x) log-bias)) x)
+
+-- For many numbers at once, in two parts with the table's row between them: a number's place, which is t, or 0 where `logOf` goes another way,
+unfoldable pub logPlace : Float → ℕ
+logPlace x = cond {A = ℕ} (lt x least-normal) 0 (cond {A = ℕ} (lt x infinity·) (bitsOf x + log-d) 0)
+
+-- and the logarithm by the place and its row
+unfoldable pub logByRow : ℕ → LogRow → Float
+logByRow t row = logSum (logAt t log-bias row)

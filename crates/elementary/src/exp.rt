@@ -1,6 +1,6 @@
 // The exponential: rows of 2^(i/64) farther than 3/8 from zero, the power series nearer.
 ghost use mathlib.Core.Path.{_≡_};
-ghost use Rattle.elementary.specs.Exp.{expOf, expSmall, expReduced, expFar, expFinish, expLow, expBelow, expAbove};
+ghost use Rattle.elementary.specs.Exp.{expOf, expSmall, expSum, expReduced, expPoly, expScaled, expFar, expFinish, expLow, expBelow, expAbove, expPlace, expByRow};
 
 // 64 / ln 2, and 1.5 · 2^52 + 131072, which added to a number rounds it to a whole one.
 const EXP_INV: f64 = 92.33248261689366;
@@ -51,7 +51,7 @@ const FACT14: f64 = 1.1470745597729725e-11;
 
 const P52: u64 = 0x10_0000_0000_0000;
 
-fn small(x: f64) -> f64
+pub fn small(x: f64) -> f64
     ensures { λ r. ⌜ r ≡ expSmall x ⌝ }
 {
     let z = x * x;
@@ -65,11 +65,32 @@ fn small(x: f64) -> f64
     h + (f + z * (p + z4 * q))
 }
 
+fn sum(x: f64) -> f64
+    ensures { λ r. ⌜ r ≡ expSum x ⌝ }
+{
+    x * EXP_INV + EXP_M
+}
+
 fn reduced(x: f64, w: f64) -> f64
     ensures { λ r. ⌜ r ≡ expReduced x w ⌝ }
 {
     let n = w - EXP_M;
     (x - n * EXP_L1) - n * EXP_L2
+}
+
+// exp r - 1, and the row's rest with it.
+fn polynomial(rest: f64, r: f64) -> f64
+    ensures { λ p. ⌜ p ≡ expPoly rest r ⌝ }
+{
+    let z = r * r;
+    ((rest + r) + z * (EXP_C2 + r * EXP_C3)) + (z * z) * (EXP_C4 + r * EXP_C5)
+}
+
+fn scaled(t: f64, scale: f64, p: f64) -> f64
+    ensures { λ r. ⌜ r ≡ expScaled t scale p ⌝ }
+{
+    let s = t * scale;
+    s + s * p
 }
 
 fn far(t: f64, p: f64, e: u64) -> f64
@@ -91,23 +112,21 @@ fn finish(m: u64, r: f64) -> f64
 {
     let row = tables::exp_row(m % 64);
     let e = m / 64;
-    let z = r * r;
-    let p = ((row.rest + r) + z * (EXP_C2 + r * EXP_C3)) + (z * z) * (EXP_C4 + r * EXP_C5);
+    let p = polynomial(row.rest, r);
     if e < 1100 {
         return far(row.value, p, e);
     }
     if 3070 < e {
         return far(row.value, p, e);
     }
-    let s = row.value * f64::from_bits((e - 1025) * P52);
-    s + s * p
+    scaled(row.value, f64::from_bits((e - 1025) * P52), p)
 }
 
 // The exponential of x + lo, for an x below zero and a far smaller lo.
 pub fn low(x: f64, lo: f64) -> f64
     ensures { λ r. ⌜ r ≡ expLow x lo ⌝ }
 {
-    let w = x * EXP_INV + EXP_M;
+    let w = sum(x);
     if EXP_LOW < w {
         return finish(f64::to_bits(w) % 262144, reduced(x, w) + lo);
     }
@@ -117,7 +136,7 @@ pub fn low(x: f64, lo: f64) -> f64
 fn below(x: f64) -> f64
     ensures { λ r. ⌜ r ≡ expBelow x ⌝ }
 {
-    let w = x * EXP_INV + EXP_M;
+    let w = sum(x);
     if EXP_LOW < w {
         return finish(f64::to_bits(w) % 262144, reduced(x, w));
     }
@@ -127,7 +146,7 @@ fn below(x: f64) -> f64
 fn above(x: f64) -> f64
     ensures { λ r. ⌜ r ≡ expAbove x ⌝ }
 {
-    let w = x * EXP_INV + EXP_M;
+    let w = sum(x);
     if w < EXP_HIGH {
         return finish(f64::to_bits(w) % 262144, reduced(x, w));
     }
@@ -144,4 +163,27 @@ pub fn exp(x: f64) -> f64
         return above(x);
     }
     small(x)
+}
+
+// For many numbers at once, in two parts with the table's row between them. A number's place is the m that `finish` takes, or 0 past a cut.
+pub fn place(x: f64) -> u64
+    ensures { λ r. ⌜ r ≡ expPlace x ⌝ }
+{
+    let w = sum(x);
+    if EXP_LOW < w {
+        if w < EXP_HIGH {
+            return f64::to_bits(w) % 262144;
+        }
+        return 0;
+    }
+    0
+}
+
+// The exponential by the place m and its row, where `finish` does not go to `far`.
+pub fn by_row(x: f64, m: u64, row: tables::ExpRow) -> f64
+    ensures { λ r. ⌜ r ≡ expByRow x m row ⌝ }
+{
+    let p = polynomial(row.rest, reduced(x, sum(x)));
+    // m / 64 - 1025 where the value counts, and a number's exponent at any other m
+    scaled(row.value, f64::from_bits((m / 64 + 1023) % 2048 * P52), p)
 }

@@ -1,6 +1,6 @@
 // The natural logarithm.
 ghost use mathlib.Core.Path.{_≡_};
-ghost use Rattle.elementary.specs.Log.{logOf, logSmall};
+ghost use Rattle.elementary.specs.Log.{logOf, logSmall, logPlace, logByRow};
 
 const P52: u64 = 0x10_0000_0000_0000;
 
@@ -31,4 +31,25 @@ pub fn log(x: f64) -> f64
         return r.hi + r.lo;
     }
     x
+}
+
+// For many numbers at once, in two parts with the table's row between them. A number's place is the t that `parts` makes of it, or 0 where `log` goes another way.
+pub fn place(x: f64) -> u64
+    ensures { λ r. ⌜ r ≡ logPlace x ⌝ }
+{
+    if x < 2.2250738585072014e-308 {
+        return 0;
+    }
+    if x < num::infinity() {
+        return f64::to_bits(x) + crate::log_parts::LOG_D;
+    }
+    0
+}
+
+// The logarithm by the place and its row.
+pub fn by_row(t: u64, row: tables::LogRow) -> f64
+    ensures { λ r. ⌜ r ≡ logByRow t row ⌝ }
+{
+    let r = crate::log_parts::at_row(t, 1023.0, row);
+    r.hi + r.lo
 }

@@ -1,12 +1,12 @@
 // The logarithm in two parts, exact and small, which `log` and `lgamma` share: a row of logarithms and a polynomial.
 ghost use mathlib.Core.Path.{_≡_};
 ghost use Prim.Native.Nat.{_<_, _^_};
-ghost use Rattle.elementary.specs.Log.{logParts};
+ghost use Rattle.elementary.specs.Log.{logParts, logAt};
 
 // The bits where the range of the reduced number begins, and of 1 less those.
 const LOG_OFF: u64 = 0x3fe6_5555_0000_0000;
 
-const LOG_D: u64 = 0x0009_aaab_0000_0000;
+pub const LOG_D: u64 = 0x0009_aaab_0000_0000;
 // 1.5 · 2^10: added and taken away again it rounds to a multiple of 2^-42.
 const LOG_M: f64 = 1536.0;
 // ln 2 to a multiple of 2^-42, and the rest.
@@ -41,10 +41,16 @@ pub fn parts(b: u64, sub: f64) -> LogParts
     ensures { λ r. ⌜ r ≡ logParts b sub ⌝ }
 {
     let t = b + LOG_D;
-    let frac = t % P52;
+    let row = tables::log_row(t % P52 / P46);
+    at_row(t, sub, row)
+}
+
+// The same of t, which is b + LOG_D, by its row.
+pub fn at_row(t: u64, sub: f64, row: tables::LogRow) -> LogParts
+    ensures { λ r. ⌜ r ≡ logAt t sub row ⌝ }
+{
     let k = ((t / P52) as u32) as f64 - sub;
-    let row = tables::log_row(frac / P46);
-    let z = f64::from_bits(frac + LOG_OFF);
+    let z = f64::from_bits(t % P52 + LOG_OFF);
     let d = z - row.centre;
     let p = d * row.inverse;
     let rh = (p + LOG_M) - LOG_M;

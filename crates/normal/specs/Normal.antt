@@ -1,6 +1,9 @@
 -- `normal` of the source: the logarithm of the normal distribution at x, and the ratio of density to distribution there.
+use mathlib.Core.Path.{_≡_}
 use mathlib.Core.Bool.{cond}
-use Prim.Native.Nat.{ℕ, zero, suc}
+use Prim.Native.Nat.{ℕ, zero, suc, _-_, _<_}
+use native.Mathlib.Nat.{not-suc-le-zero}
+use native.Mathlib.Omega.{arith}
 use lib.Ieee.{Float, neg, lt}
 use Rattle.num.specs.F64.{_⊕_, _⊖_, _⊗_, _⊘_, whole, bits, zero·, half·, eight·}
 use Rattle.elementary.specs.Exp.{expOf}
@@ -22,6 +25,11 @@ logPhi x = neg half· ⊗ x ⊗ x ⊖ half· ⊗ log-two-pi
 unfoldable pub fractionFrom : Float → ℕ → Float → Float
 fractionFrom t zero f = f
 fractionFrom t (suc k) f = fractionFrom t k (whole (suc k) ⊘ (t ⊕ f))
+
+pub fraction-step : (t f : Float) (k : ℕ) → 0 < k → fractionFrom t k f ≡ fractionFrom t (k - 1) (whole k ⊘ (t ⊕ f))
+unfolding fractionFrom
+fraction-step t f zero h = absurd (not-suc-le-zero h)
+fraction-step t f (suc k) h = let s : suc k - 1 ≡ k = omega arith in rw s
 
 unfoldable pub fractionOf : Float → Float
 fractionOf t = fractionFrom t 64 zero·

@@ -42,7 +42,7 @@ fn fourth(s: f64) -> f64
 }
 
 // y successes and f failures, with the logarithms lp and lm and the derivatives p and q of each.
-fn combined(y: f64, f: f64, lp: f64, lm: f64, p: [f64; 4], q: [f64; 4]) -> ConditionalLog
+pub fn combined(y: f64, f: f64, lp: f64, lm: f64, p: [f64; 4], q: [f64; 4]) -> ConditionalLog
     ensures { λ r. ⌜ r ≡ combinedOf y f lp lm p q ⌝ }
 {
     let s = y * p[0] - f * q[0];

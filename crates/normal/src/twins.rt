@@ -52,7 +52,7 @@ fn below(x: f64) -> Erfcs
     apart(x)
 }
 
-fn erfc_at_both(x: f64) -> Erfcs
+pub fn erfc_at_both(x: f64) -> Erfcs
     ensures { λ r. ⌜ (r .at ≡ erfcOf x) × (r .across ≡ erfcOf (neg x)) ⌝ }
 {
     if x < 0.0 {

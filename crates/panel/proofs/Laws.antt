@@ -8,7 +8,6 @@ use lib.Ieee.{Float}
 use Rattle.num.specs.F64.{_⊕_, _⊖_, _⊗_, whole, half·}
 use Rattle.num.specs.Left.{left-one, left-none}
 use Rattle.elementary.specs.Exp.{expOf}
-use Rattle.work.specs.declared.Ending.{Ending}
 use Rattle.work.specs.declared.Ending.the-variants.{Answered}
 use Rattle.work.specs.Ended.{isRefused}
 use Rattle.work.specs.Metered.{past, gives}
@@ -16,20 +15,18 @@ use Rattle.legendre.specs.declared.Pair.{Pair}
 use Rattle.posterior.specs.declared.integrand.Posterior.{Posterior}
 use Rattle.posterior.specs.declared.integrand.At.{At}
 use Rattle.posterior.specs.Integrand.{atOf, noPoint}
+use Rattle.nodes.specs.Node.{addedOf, noPair, nodeOf, weightOf}
 use Rattle.panel.specs.declared.Hump.{Hump}
 use Rattle.panel.specs.declared.Sums.{Sums}
-use Rattle.panel.specs.Panel.{addedOf, noPair, nodeOf, weightOf, nodes, panels, widthOf, sides, noSums, panelFrom, panelOf, sideFrom, sideOf, sidesOf}
+use Rattle.panel.specs.Panel.{nodes, panels, widthOf, sides, noSums, nothingOf, panelFrom, panelOf, sideFrom, sideOf, sidesOf}
 
 -- ---- a panel's nodes and a side's panels
-abbrev none : Ending → Posterior → Sums
-none e q = record { end = e; p = q; sum = noSums }
-
 module _ (rule : List Pair) (top mid width : Float) where
   abbrev pub afterPanel : ℕ → ℕ → Sums → Sums
-  afterPanel n i r = cond (isRefused (r .end)) (none (r .end) (r .p)) (sideFrom (r .p) rule top mid width n (i + 1) (r .sum))
+  afterPanel n i r = cond (isRefused (r .end)) (nothingOf (r .end) (r .p)) (sideFrom (r .p) rule top mid width n (i + 1) (r .sum))
 
   module _ (i : ℕ) (q : Posterior) (s : List Float) where
-    panel-step : (n : ℕ) → panelFrom q rule top mid width (suc n) i s ≡ (let a = atOf q (nodeOf mid width (getD rule i noPair)) in cond (isRefused (a .end)) (none (a .end) (a .p)) (panelFrom (a .p) rule top mid width n (i + 1) (addedOf s (weightOf width (getD rule i noPair) (a .v .log) top) (a .v .moments))))
+    panel-step : (n : ℕ) → panelFrom q rule top mid width (suc n) i s ≡ (let a = atOf q (nodeOf mid width (getD rule i noPair)) in cond (isRefused (a .end)) (nothingOf (a .end) (a .p)) (panelFrom (a .p) rule top mid width n (i + 1) (addedOf s (weightOf width (getD rule i noPair) (a .v .log) top) (a .v .moments))))
     unfolding panelFrom nodes atOf
     panel-step n = rw (past noPoint)
 
@@ -47,8 +44,8 @@ module _ (rule : List Pair) (top mid width : Float) where
 
 module _ (all : Sums) (rule : List Pair) (top mid width : Float) (n i : ℕ) (q : Posterior) (s : List Float) where
   module _ (v : panelFrom q rule top mid width (n - i) i s ≡ all) where
-    pub panel-stops : (a : At) → i < n → a ≡ atOf q (nodeOf mid width (getD rule i noPair)) → isRefused (a .end) ≡ true → none (a .end) (a .p) ≡ all
-    panel-stops a h e t = rw (left-one n i h, panel-step, ← e, t) at v
+    pub panel-stops : (r : Sums) (a : At) → i < n → a ≡ atOf q (nodeOf mid width (getD rule i noPair)) → isRefused (a .end) ≡ true → r ≡ nothingOf (a .end) (a .p) → r ≡ all
+    panel-stops r a h e t w = w ∙ (rw (left-one n i h, panel-step, ← e, t) at v)
 
     pub panel-turn : (a : At) (x : Float) (t : List Float) → i < n → a ≡ atOf q (nodeOf mid width (getD rule i noPair)) → isRefused (a .end) ≡ false → x ≡ expOf (a .v .log ⊖ top) → t ≡ addedOf s (half· ⊗ width ⊗ getD rule i noPair .w ⊗ x) (a .v .moments) → panelFrom (a .p) rule top mid width (n - (i + 1)) (i + 1) t ≡ all
     panel-turn a x t h e f g u = rw (u, g) (rw (left-one n i h, panel-step, ← e, f) at v)
@@ -63,9 +60,9 @@ module _ (all : Sums) (rule : List Pair) (top mid width : Float) (n i : ℕ) (q 
   side-done v h = rw (left-none n i h, side-end) at v
 
 -- ---- both sides
-sides-is : (p : Posterior) (rule : List Pair) (h : Hump) (m : ℕ) → sidesOf p rule h m ≡ (let l = sideOf p rule (h .log) (h .left) (widthOf (h .left) (h .mode) m) m noSums in cond (isRefused (l .end)) (none (l .end) (l .p)) (sideOf (l .p) rule (h .log) (h .mode) (widthOf (h .mode) (h .right) m) m (l .sum)))
+sides-is : (p : Posterior) (rule : List Pair) (h : Hump) (m : ℕ) → sidesOf p rule h m ≡ (let l = sideOf p rule (h .log) (h .left) (widthOf (h .left) (h .mode) m) m noSums in cond (isRefused (l .end)) (nothingOf (l .end) (l .p)) (sideOf (l .p) rule (h .log) (h .mode) (widthOf (h .mode) (h .right) m) m (l .sum)))
 unfolding sidesOf sides sideOf sideFrom
 sides-is p rule h m = rw (past noSums)
 
-pub sides-goes : (p : Posterior) (rule : List Pair) (h : Hump) (m : ℕ) (l r : Sums) → l ≡ sideOf p rule (h .log) (h .left) (widthOf (h .left) (h .mode) m) m noSums → r ≡ cond (isRefused (l .end)) (none (l .end) (l .p)) (sideOf (l .p) rule (h .log) (h .mode) (widthOf (h .mode) (h .right) m) m (l .sum)) → r ≡ sidesOf p rule h m
+pub sides-goes : (p : Posterior) (rule : List Pair) (h : Hump) (m : ℕ) (l r : Sums) → l ≡ sideOf p rule (h .log) (h .left) (widthOf (h .left) (h .mode) m) m noSums → r ≡ cond (isRefused (l .end)) (nothingOf (l .end) (l .p)) (sideOf (l .p) rule (h .log) (h .mode) (widthOf (h .mode) (h .right) m) m (l .sum)) → r ≡ sidesOf p rule h m
 sides-goes p rule h m l r e t = rw (sides-is, ← e) t

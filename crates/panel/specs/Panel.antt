@@ -1,36 +1,18 @@
 -- One rule's sums: sixteen nodes a panel, both sides of the mode, left side first.
-use mathlib.Core.List.{List, [], _∷_}
+use mathlib.Core.List.{List}
 use Prim.Native.Nat.{ℕ, zero, suc, _+_}
 use lib.ListN.{getD, replicate}
-use lib.Ieee.{Float, nan}
+use lib.Ieee.{Float}
 use Rattle.num.specs.F64.{_⊕_, _⊖_, _⊗_, _⊘_, whole, zero·, half·}
-use Rattle.elementary.specs.Exp.{expOf}
 use Rattle.work.specs.declared.Ending.{Ending}
 use Rattle.work.specs.Work.{Work, ret, eval, _>>=_, told}
 use Rattle.legendre.specs.declared.Pair.{Pair}
 use Rattle.posterior.specs.declared.integrand.Posterior.{Posterior}
 use Rattle.posterior.specs.declared.integrand.Point.{Point}
 use Rattle.posterior.specs.Integrand.{Eval, here, counted, from}
+use Rattle.nodes.specs.Node.{addedOf, noPair, nodeOf, weightOf}
 use Rattle.panel.specs.declared.Hump.{Hump}
 use Rattle.panel.specs.declared.Sums.{Sums}
-
-abbrev addedAt : List Float → Float → List Float → ℕ → Float
-addedAt s w m i = getD s i nan ⊕ w ⊗ getD m i nan
-
--- the sums with a node's moments, weighed
-abbrev pub addedOf : List Float → Float → List Float → List Float
-addedOf s w m = let at = addedAt s w m in at 0 ∷ at 1 ∷ at 2 ∷ at 3 ∷ at 4 ∷ at 5 ∷ []
-
--- past the rule's end, which no panel reaches
-abbrev pub noPair : Pair
-noPair = record { x = nan; w = nan }
-
--- where a node lies, and its weight
-abbrev pub nodeOf : Float → Float → Pair → Float
-nodeOf center width r = center ⊕ half· ⊗ width ⊗ r .x
-
-abbrev pub weightOf : Float → Pair → Float → Float → Float
-weightOf width r log top = half· ⊗ width ⊗ r .w ⊗ expOf (log ⊖ top)
 
 -- n nodes of the panel, from node i on; top is the logarithm at the mode
 unfoldable pub nodes : (Float → Eval) → List Pair → Float → Float → Float → ℕ → ℕ → List Float → Work Eval Point (List Float)
@@ -63,6 +45,9 @@ sides here rule h m = do
 
 abbrev pub toSums : Posterior → Ending → ℕ → List Float → Sums
 toSums p e n s = record { end = e; p = counted p n; sum = s }
+
+abbrev pub nothingOf : Ending → Posterior → Sums
+nothingOf e p = record { end = e; p = p; sum = noSums }
 
 unfoldable pub panelFrom : Posterior → List Pair → Float → Float → Float → ℕ → ℕ → List Float → Sums
 panelFrom p rule top center width n i s = told (toSums p) noSums (from p (nodes (here p) rule top center width n i s))

@@ -2,8 +2,11 @@
 use legendre::Pair;
 use posterior::integrand::Posterior;
 use work::Ending;
+use work::QuadratureEvaluations;
 ghost use mathlib.Core.Path.{_≡_};
-ghost use Rattle.panel.specs.Panel.{addedOf, panelOf, sideOf, sidesOf};
+ghost use Prim.Native.Nat.{_-_};
+ghost use lib.Dec.{leb};
+ghost use Rattle.panel.specs.Panel.{nothingOf, panelOf, sideOf, sidesOf};
 
 // The interval of the integral, with the mode in it and the logarithm there.
 pub struct Hump {
@@ -19,20 +22,26 @@ pub struct Sums {
     pub sum: [f64; 6],
 }
 
-fn added(sum: [f64; 6], weight: f64, moments: [f64; 6]) -> [f64; 6]
-    ensures { λ r. ⌜ r ≡ addedOf sum weight moments ⌝ }
+// A refusal, with no sums.
+fn nothing(end: Ending, p: Posterior) -> Sums
+    ensures { λ r. ⌜ r ≡ nothingOf end p ⌝ }
 {
-    [
-        sum[0] + weight * moments[0],
-        sum[1] + weight * moments[1],
-        sum[2] + weight * moments[2],
-        sum[3] + weight * moments[3],
-        sum[4] + weight * moments[4],
-        sum[5] + weight * moments[5],
-    ]
+    Sums {
+        end,
+        p,
+        sum: [0.0; 6],
+    }
 }
 
-fn panel(p: Posterior, rule: [Pair; 16], top: f64, center: f64, width: f64, sum: [f64; 6]) -> Sums
+// The limit is tested before each node.
+fn one_by_one(
+    p: Posterior,
+    rule: [Pair; 16],
+    top: f64,
+    center: f64,
+    width: f64,
+    sum: [f64; 6],
+) -> Sums
     ensures { λ r. ⌜ r ≡ panelOf p rule top center width sum ⌝ }
 {
     let mut q = p;
@@ -43,15 +52,11 @@ fn panel(p: Posterior, rule: [Pair; 16], top: f64, center: f64, width: f64, sum:
         let end = a.end;
         q = a.p;
         if work::refused(end) {
-            return Sums {
-                end,
-                p: q,
-                sum: [0.0; 6],
-            };
+            return nothing(end, q);
         }
         let moments = a.v.moments;
         let e = elementary::exp::exp(a.v.log - top);
-        let t = added(s, 0.5 * width * n.w * e, moments);
+        let t = nodes::sum::added(s, 0.5 * width * n.w * e, moments);
         s = t;
     }
     Sums {
@@ -59,6 +64,37 @@ fn panel(p: Posterior, rule: [Pair; 16], top: f64, center: f64, width: f64, sum:
         p: q,
         sum: s,
     }
+}
+
+// Whether the limit leaves sixteen evaluations.
+fn sixteen_left(used: u64, limit: u64) -> bool
+    ensures { λ r. ⌜ r ≡ leb 16 (limit - used) ⌝ }
+{
+    if used < limit {
+        16 <= limit - used
+    } else {
+        false
+    }
+}
+
+// The nodes side by side where the limit covers them all, and then it is tested once.
+fn panel(p: Posterior, rule: [Pair; 16], top: f64, center: f64, width: f64, sum: [f64; 6]) -> Sums
+    ensures { λ r. ⌜ r ≡ panelOf p rule top center width sum ⌝ }
+{
+    let used = p.evaluations.0;
+    let limit = p.limit.0;
+    if sixteen_left(used, limit) {
+        let s = nodes::sixteen(p, rule, top, center, width, sum);
+        let mut q = p;
+        let more = QuadratureEvaluations(used + 16);
+        q.evaluations = more;
+        return Sums {
+            end: Ending::Answered,
+            p: q,
+            sum: s,
+        };
+    }
+    one_by_one(p, rule, top, center, width, sum)
 }
 
 fn side(
@@ -80,11 +116,7 @@ fn side(
         q = r.p;
         s = r.sum;
         if work::refused(end) {
-            return Sums {
-                end,
-                p: q,
-                sum: [0.0; 6],
-            };
+            return nothing(end, q);
         }
     }
     Sums {
@@ -109,11 +141,7 @@ pub fn sides(p: Posterior, rule: [Pair; 16], h: Hump, panels: u32) -> Sums
     let end = l.end;
     let q = l.p;
     if work::refused(end) {
-        return Sums {
-            end,
-            p: q,
-            sum: [0.0; 6],
-        };
+        return nothing(end, q);
     }
     let s = l.sum;
     side(

@@ -6,6 +6,8 @@ pub mod log;
 pub use erfc::ErfcRow;
 pub use erfc::erfc_row;
 pub use exp::ExpRow;
+pub use exp::exp_lane_row;
 pub use exp::exp_row;
 pub use log::LogRow;
+pub use log::log_lane_row;
 pub use log::log_row;

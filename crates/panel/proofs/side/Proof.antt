@@ -29,6 +29,7 @@ side-spec =
     (λ c. tt)
     (λ c κs. search needs)
     (λ c κs. search needs)
+    (λ c κs. search needs)
     (λ c. search (side-turn, choose))
     (λ c. search needs)
     (λ c. search needs)

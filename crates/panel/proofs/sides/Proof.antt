@@ -12,6 +12,7 @@ sides-spec =
     (λ c. tt)
     (λ c κs. search needs)
     (λ c κs. search needs)
+    (λ c κs. search needs)
     (λ c. search (sides-goes, choose) fits 8000 depth 8)
     (λ c. tt)
     (λ c κs. search needs)

@@ -11,8 +11,10 @@ unfolding expAbove
 above-spec =
     tie.close
     (tie.spec
+    (λ c κs. search needs)
     (λ c. below-number _ _ (c .if1 .taken))
     (λ c κs. search needs)
     (λ c κs. search needs)
-    (λ c. rw (← c .before .reduced .ensures) (search choose))
-    (λ c κs. search needs) (λ c. search choose))
+    (λ c. rw (← c .before .before .before .sum .ensures, ← c .before .reduced .ensures) (search choose))
+    (λ c κs. search needs)
+    (λ c. rw (← c .before .before .sum .ensures) (search choose)))

@@ -1,4 +1,4 @@
--- `exp::finish` meets its contract, by its tests and its row; the exponent's field is a number's.
+-- `exp::finish` meets its contract, by its tests and its callees' contracts; the exponent's field is a number's.
 use native.Mathlib.Omega.{arith}
 use borrow.Author.Needs.{needs}
 use Rattle.num.specs.Choose.{choose}
@@ -14,10 +14,12 @@ finish-spec =
     (tie.spec
     (λ c κs. search needs)
     (λ c κs. search needs)
-    (λ c. rw (← c .before .before .before .exp-row .ensures) (search choose))
     (λ c κs. search needs)
-    (λ c. rw (← c .before .before .before .before .exp-row .ensures) (search choose))
+    (λ c. rw (← c .before .before .before .exp-row .ensures, ← c .before .before .polynomial .ensures) (search choose))
+    (λ c κs. search needs)
+    (λ c. rw (← c .before .before .before .before .exp-row .ensures, ← c .before .before .before .polynomial .ensures) (search choose))
     (λ c. search needs)
     (λ c. search needs)
     (λ c. number-bits _ (omega arith))
-    (λ c. rw (← c .before .before .before .before .exp-row .ensures) (search choose)))
+    (λ c κs. search needs)
+    (λ c. rw (← c .before .before .before .before .exp-row .ensures, ← c .before .before .before .polynomial .ensures) (search choose)))

@@ -11,8 +11,9 @@ unfolding expLow
 low-spec =
     tie.close
     (tie.spec
+    (λ c κs. search needs)
     (λ c. above-number _ _ (c .if1 .taken))
     (λ c κs. search needs)
     (λ c κs. search needs)
-    (λ c. rw (← c .before .reduced .ensures) (search choose))
-    (λ c. search choose))
+    (λ c. rw (← c .before .before .before .sum .ensures, ← c .before .reduced .ensures) (search choose))
+    (λ c. rw (← c .before .sum .ensures) (search choose)))

@@ -1,7 +1,5 @@
--- `log_parts::parts` meets its contract, step by step; the reduced number's bits are a number's.
-use native.Mathlib.Omega.{arith}
+-- `log_parts::parts` meets its contract, by its callees' contracts.
 use borrow.Author.Needs.{needs}
-use Rattle.num.specs.Numbers.{number-bits}
 use Rattle.elementary.specs.Log.{logParts}
 use Rattle.elementary.proofs.log_parts.parts.Statement.{statement}
 use Rattle.elementary.proofs.log_parts.parts.Tie as tie
@@ -12,9 +10,6 @@ parts-spec =
     tie.close
     (tie.spec
     (λ c. search needs)
-    (λ c. search needs)
-    (λ c. search needs)
     (λ c κs. search needs)
-    (λ c. search needs)
-    (λ c. number-bits _ (omega arith))
-    (λ c. rw (← c .before .before .before .before .before .before .log-row .ensures)))
+    (λ c κs. search needs)
+    (λ c. rw (← c .before .log-row .ensures) (c .at-row .ensures)))

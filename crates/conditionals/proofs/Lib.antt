@@ -1,0 +1,3 @@
+pub mod TailsLaws
+pub mod NormalsLaws
+pub mod Laws

@@ -1,0 +1,81 @@
+-- The laws of the normal distribution at sixteen places.
+use mathlib.Core.Path.{_≡_, refl, _∙_}
+use mathlib.Core.Bool.{true, false, cond}
+use mathlib.Core.List.{List}
+use Prim.Native.Nat.{ℕ, _<_}
+use lib.ListN.{getD}
+use lib.Ieee.{Float, nan, binary64, neg, lt}
+use Rattle.num.specs.F64.{_⊖_, _⊗_, _⊘_, half·, eight·}
+use Rattle.order.specs.Quotients.{neg-div}
+use Rattle.elementary.specs.Exp.{expOf}
+use Rattle.elementary.specs.Log.{logOf}
+use Rattle.elementary.specs.Erfc.{erfcOf}
+use Rattle.lanes.specs.Lanes.{values, nth, expsOf, logsOf}
+use Rattle.lanes.specs.Filled.{at-place, same-values, own-values}
+use Rattle.normal.specs.declared.mills.LogMills.{LogMills}
+use Rattle.normal.specs.Normal.{logPhi, sqrt-two, fractionOf, normalTail}
+use Rattle.normal.specs.Twins.{byCdf}
+use Rattle.conditionals.specs.declared.normals.Ratios.{Ratios}
+use Rattle.conditionals.specs.declared.normals.Pairs.{Pairs}
+use Rattle.conditionals.specs.Normals.{acrossOf, cdfOf, cdfsOf, gapsOf, normalAt, ratiosOf, normalsOf}
+use Rattle.conditionals.specs.Tails.{fractionsOf, beyondOf, tailAt, tailsAt, tailsOf}
+use Rattle.conditionals.proofs.TailsLaws.{none-beyond}
+
+pub gap : (r x l : Float) → r ≡ logPhi x → r ⊖ l ≡ logPhi x ⊖ l
+gap r x l e = rw e
+
+pub half-at : (x a : Float) → a ≡ erfcOf (neg x ⊘ sqrt-two) → half· ⊗ a ≡ cdfOf x
+half-at x a e = rw e
+
+pub half-across : (x a : Float) → a ≡ erfcOf (neg (neg x ⊘ sqrt-two)) → half· ⊗ a ≡ cdfOf (neg x)
+half-across x a e = rw (e, neg-div binary64 (neg x) sqrt-two)
+
+pub both-arrays : (x a b : List Float) → a ≡ values (nth cdfOf x) 16 0 → b ≡ values (nth (λ y. cdfOf (neg y)) x) 16 0 → _≡_ {A = Pairs} (record { at = a; across = b }) (cdfsOf x)
+unfolding cdfsOf
+both-arrays x a b e f = rw (e, f)
+
+same-ratios : (f g : ℕ → LogMills) → ((j : ℕ) → j < 16 → f j ≡ g j) → ratiosOf f ≡ ratiosOf g
+same-ratios f g h = rw (same-values (λ i. f i .log) (λ i. g i .log) (λ j l. rw (h j l)), same-values (λ i. f i .mills) (λ i. g i .mills) (λ j l. rw (h j l)))
+
+-- ---- by the stages
+module _ (x cdf : List Float) where
+  abbrev logs : List Float
+  logs = logsOf cdf
+
+  abbrev ratios : List Float
+  ratios = expsOf (gapsOf x logs)
+
+  log-at : (j : ℕ) → j < 16 → getD logs j nan ≡ logOf (getD cdf j nan)
+  unfolding logsOf
+  log-at j l = at-place (nth logOf cdf) j nan l
+
+  gap-at : (j : ℕ) → j < 16 → getD (gapsOf x logs) j nan ≡ logPhi (getD x j nan) ⊖ getD logs j nan
+  unfolding gapsOf
+  gap-at j l = at-place (λ i. logPhi (getD x i nan) ⊖ getD logs i nan) j nan l
+
+  ratio-at : (j : ℕ) → j < 16 → getD ratios j nan ≡ expOf (logPhi (getD x j nan) ⊖ logOf (getD cdf j nan))
+  unfolding expsOf
+  ratio-at j l = rw (at-place (nth expOf (gapsOf x logs)) j nan l, gap-at j l, log-at j l)
+
+  -- where the fraction serves, and where it does not
+  near-at : (j : ℕ) → j < 16 → _≡_ {A = LogMills} (record { log = getD logs j nan; mills = getD ratios j nan }) (byCdf (logPhi (getD x j nan)) (getD cdf j nan))
+  near-at j l = rw (log-at j l, ratio-at j l)
+
+  tail-at : (j : ℕ) → j < 16 → tailsAt x (fractionsOf (acrossOf x)) (record { log = logs; mills = ratios }) j ≡ normalAt (getD x j nan) (getD cdf j nan)
+  unfolding fractionsOf acrossOf normalTail
+  tail-at j l = rw (at-place (nth fractionOf (acrossOf x)) j nan l, at-place (nth neg x) j nan l, log-at j l, ratio-at j l)
+
+  pub by-tails : (log mills g : List Float) (r : Ratios) → log ≡ logsOf cdf → g ≡ gapsOf x log → mills ≡ expsOf g → r ≡ tailsOf x (record { log = log; mills = mills }) → r ≡ normalsOf x cdf
+  unfolding tailsOf normalsOf
+  by-tails log mills g r a b c d = rw (d, c, b, a) (same-ratios (tailsAt x (fractionsOf (acrossOf x)) (record { log = logs; mills = ratios })) (λ i. normalAt (getD x i nan) (getD cdf i nan)) tail-at)
+
+  nearby : beyondOf x ≡ false → (j : ℕ) → j < 16 → _≡_ {A = LogMills} (record { log = getD logs j nan; mills = getD ratios j nan }) (normalAt (getD x j nan) (getD cdf j nan))
+  nearby h j l = rw (none-beyond x h j l) (near-at j l)
+
+  own-ratios : _≡_ {A = Ratios} (record { log = logs; mills = ratios }) (ratiosOf (λ i. record { log = getD logs i nan; mills = getD ratios i nan }))
+  unfolding logsOf expsOf values
+  own-ratios = rw (own-values logs nan refl, own-values ratios nan refl)
+
+  pub by-centres : (log mills g : List Float) → log ≡ logsOf cdf → g ≡ gapsOf x log → mills ≡ expsOf g → beyondOf x ≡ false → _≡_ {A = Ratios} (record { log = log; mills = mills }) (normalsOf x cdf)
+  unfolding normalsOf
+  by-centres log mills g a b c h = rw (c, b, a) (own-ratios ∙ same-ratios (λ i. record { log = getD logs i nan; mills = getD ratios i nan }) (λ i. normalAt (getD x i nan) (getD cdf i nan)) (nearby h))

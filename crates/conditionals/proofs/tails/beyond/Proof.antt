@@ -1,0 +1,31 @@
+-- `tails::beyond` meets its contract: the places so far, with those still to come, are all.
+use mathlib.Core.Path.{_≡_, refl}
+use Prim.Native.Nat.{_-_}
+use mathlib.Core.Bool.{_||_}
+use borrow.Author.Needs.{needs}
+use Rattle.conditionals.specs.Tails.{beyondFrom, beyondOf}
+use Rattle.conditionals.proofs.TailsLaws.{beyond-turn, beyond-end}
+use Rattle.conditionals.proofs.tails.beyond.Statement.{statement}
+use Rattle.conditionals.proofs.tails.beyond.Tie as tie
+
+abbrev Inv-loop : tie.InvT-loop
+Inv-loop x any₀ i₀ any i = (any || beyondFrom x (16 - i) i) ≡ beyondOf x
+
+abbrev μ-loop : tie.MeasureT-loop
+μ-loop x any₀ i₀ any i = 16 - i
+
+pub beyond-spec : {M : Type 1} → statement M
+unfolding beyondOf
+beyond-spec =
+    tie.close
+    (tie.spec
+    Inv-loop
+    μ-loop
+    (λ c. refl)
+    (λ c. search needs)
+    (λ c. search needs)
+    (λ c κs. search needs)
+    (λ c. search needs)
+    (λ c. search needs)
+    (λ c. search beyond-turn)
+    (λ c. search beyond-end))

@@ -1,0 +1,3 @@
+pub mod Normals
+pub mod Tails
+pub mod Conditionals

@@ -1,0 +1,37 @@
+-- The normal distribution at sixteen places, from its values there.
+use mathlib.Core.Bool.{cond}
+use mathlib.Core.List.{List}
+use Prim.Native.Nat.{ℕ}
+use lib.ListN.{getD}
+use lib.Ieee.{Float, nan, neg, lt}
+use Rattle.num.specs.F64.{_⊖_, _⊗_, _⊘_, half·, eight·}
+use Rattle.elementary.specs.Erfc.{erfcOf}
+use Rattle.lanes.specs.Lanes.{values, nth}
+use Rattle.normal.specs.declared.mills.LogMills.{LogMills}
+use Rattle.normal.specs.Normal.{logPhi, sqrt-two, normalTail}
+use Rattle.normal.specs.Twins.{byCdf}
+use Rattle.conditionals.specs.declared.normals.Ratios.{Ratios}
+use Rattle.conditionals.specs.declared.normals.Pairs.{Pairs}
+
+unfoldable pub acrossOf : List Float → List Float
+acrossOf x = values (nth neg x) 16 0
+
+abbrev pub cdfOf : Float → Float
+cdfOf x = half· ⊗ erfcOf (neg x ⊘ sqrt-two)
+
+unfoldable pub cdfsOf : List Float → Pairs
+cdfsOf x = record { at = values (nth cdfOf x) 16 0; across = values (nth (λ y. cdfOf (neg y)) x) 16 0 }
+
+unfoldable pub gapsOf : List Float → List Float → List Float
+gapsOf x log = values (λ i. logPhi (getD x i nan) ⊖ getD log i nan) 16 0
+
+-- at x, where the distribution is cdf
+abbrev pub normalAt : Float → Float → LogMills
+normalAt x cdf = cond (lt x (neg eight·)) (normalTail x) (byCdf (logPhi x) cdf)
+
+-- the arrays, from what is at each place
+abbrev pub ratiosOf : (ℕ → LogMills) → Ratios
+ratiosOf at = record { log = values (λ i. at i .log) 16 0; mills = values (λ i. at i .mills) 16 0 }
+
+unfoldable pub normalsOf : List Float → List Float → Ratios
+normalsOf x cdf = ratiosOf (λ i. normalAt (getD x i nan) (getD cdf i nan))

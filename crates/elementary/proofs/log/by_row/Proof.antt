@@ -1,0 +1,14 @@
+-- `log::by_row` meets its contract, by that of the two parts.
+use mathlib.Core.Path.{ap}
+use borrow.Author.Needs.{needs}
+use Rattle.elementary.specs.Log.{logByRow, logSum}
+use Rattle.elementary.proofs.log.by_row.Statement.{statement}
+use Rattle.elementary.proofs.log.by_row.Tie as tie
+
+pub by-row-spec : {M : Type 1} → statement M
+unfolding logByRow
+by-row-spec =
+    tie.close
+    (tie.spec
+    (λ c κs. search needs)
+    (λ c. ap logSum (c .before .at-row .ensures)))

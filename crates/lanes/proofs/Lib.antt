@@ -1,0 +1,2 @@
+pub mod ExpLaws
+pub mod LogLaws

@@ -1,0 +1,4 @@
+pub mod Lanes
+pub mod ExpParts
+pub mod LogParts
+pub mod Filled

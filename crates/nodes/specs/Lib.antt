@@ -1,0 +1,4 @@
+pub mod Node
+pub mod Nodes
+pub mod Stages
+pub mod Batch
