@@ -1,5 +1,6 @@
 /* An archive of past litters: written, checked, and asked for the summary between two positions.
- * archive: the walk through all four calls. archive dump N: the bytes of an archive of N litters, as docs/FORMAT.md shows them; of many, the ends alone. */
+ * archive: the walk through all four calls. archive dump N: the bytes of an archive of N litters, as docs/FORMAT.md
+ * shows them; of many, the ends alone. */
 #include <inttypes.h>
 #include <stdio.h>
 #include <stdlib.h>

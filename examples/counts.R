@@ -1,5 +1,6 @@
 # The fit of examples/counts.c by R: the direct maximum of the same likelihood, and MASS::glm.nb, whose model this is.
-# Rscript examples/counts.R [TABLE]: the answer's numbers with nine digits, for comparison. Needs MASS (Debian: r-cran-mass).
+# Rscript examples/counts.R [TABLE]: the answer's numbers with nine digits, for comparison. Needs MASS (Debian:
+# r-cran-mass).
 library(MASS)
 given <- commandArgs(TRUE)
 s <- read.csv(if (length(given)) given[1] else "examples/ships.csv")

@@ -1,6 +1,9 @@
-/* Counts per exposure: a published table of damage to ships, incidents over months of service, is fitted by the Gamma-Poisson model.
- * Then the objective at the estimates gives standard errors, and a row's own rate is drawn towards the mean by the rest of the table.
- * counts < TABLE: a line of names, then type,year of construction,period,months of service,incidents, as in ships.csv. */
+/* Counts per exposure: a published table of damage to ships, incidents over months of service, is fitted by the
+ * Gamma-Poisson model.
+ * Then the objective at the estimates gives standard errors, and a row's own rate is drawn towards the mean by the
+ * rest of the table.
+ * counts < TABLE: a line of names, then type,year of construction,period,months of service,incidents, as in
+ * ships.csv. */
 #include <inttypes.h>
 #include <math.h>
 #include <stdio.h>
@@ -29,7 +32,8 @@ int main(void) {
            counts[PROBIT_COUNTS_EVALUATIONS], counts[PROBIT_COUNTS_ITERATIONS], counts[PROBIT_COUNTS_PASSES], fit[PROBIT_COUNTS_NORM]);
     if (counts[PROBIT_COUNTS_SHAPE_ON_BOUND] || counts[PROBIT_COUNTS_RATE_ON_BOUND]) return 1;
 
-    /* The Hessian's inverse is the covariance of log(shape) and log(rate); the mean rate's logarithm is their difference. */
+    /* The Hessian's inverse is the covariance of log(shape) and log(rate); the mean rate's logarithm is their
+     * difference. */
     end = probit_counts_objective(shape, rate, events, rows, exposures, rows, at, PROBIT_COUNTS_OBJECTIVE_NUMBERS, spent, PROBIT_COUNTS_OBJECTIVE_COUNTS);
     const double *h = at + PROBIT_COUNTS_OBJECTIVE_HESSIAN;
     double determinant = h[0] * h[3] - h[1] * h[2];

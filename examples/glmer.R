@@ -1,4 +1,5 @@
-# Weil's litters fitted by lme4's glmer, each group by itself, as the three lines of a claim. Rscript examples/glmer.R > examples/glmer.claim
+# Weil's litters fitted by lme4's glmer, each group by itself, as the three lines of a claim.
+# Rscript examples/glmer.R > examples/glmer.claim
 # Made with lme4 1.1.31 and R 4.2.2; another version may end elsewhere.
 suppressMessages(library(lme4))
 litters <- read.csv("examples/weil.csv")

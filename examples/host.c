@@ -1,5 +1,6 @@
 /* A host in C: fits a small study through probit_fit, and through the text entry, which has to give the same bits.
- * host: the fit in words. host request: the study as the text program reads it. host answer: the fit as that program prints it. */
+ * host: the fit in words. host request: the study as the text program reads it. host answer: the fit as that program
+ * prints it. */
 #include <inttypes.h>
 #include <stdio.h>
 #include <string.h>

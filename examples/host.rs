@@ -1,4 +1,5 @@
-// A host in Rust: the same study as host.c, and to the byte the same output. Safe functions over slices stand around the library's.
+// A host in Rust: the same study as host.c, and to the byte the same output. Safe functions over slices stand around
+// the library's.
 use std::fmt::Write;
 
 mod probit {
@@ -31,7 +32,8 @@ mod probit {
         pub quadrature: u64,
     }
 
-    /// Two means, two SDs, the negative log-likelihood, the norm, two variances, the gradient (4), the Hessian by rows (16); status, evaluations, iterations, quadrature, litters, reason, four marks.
+    /// Two means, two SDs, the negative log-likelihood, the norm, two variances, the gradient (4), the Hessian by
+    /// rows (16); status, evaluations, iterations, quadrature, litters, reason, four marks.
     #[derive(PartialEq)]
     pub struct Fit {
         pub end: u64,

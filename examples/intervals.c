@@ -1,5 +1,5 @@
-/* The intervals of a real fit: Weil's litters of rats are fitted, the covariance of means and SDs is made from the reported Hessian,
- * and the SDs, which are positive by their nature, get their 95 percent log-Wald intervals.
+/* The intervals of a real fit: Weil's litters of rats are fitted, the covariance of means and SDs is made from the
+ * reported Hessian, and the SDs, which are positive by their nature, get their 95 percent log-Wald intervals.
  * intervals < REQUEST: a request as the text program reads it, its numbers in decimal. */
 #include <inttypes.h>
 #include <stdio.h>
@@ -37,7 +37,8 @@ int main(void) {
     double hessian[N][N], covariance[N][N], errors[N];
     memcpy(hessian, fit + PROBIT_HESSIAN, sizeof hessian);
     if (!inverse(N, hessian, covariance)) return 1;
-    /* From variances to SDs: the derivative of a root is 1 / (2 SD). Rounding is evened out, so that the two halves agree. */
+    /* From variances to SDs: the derivative of a root is 1 / (2 SD). Rounding is evened out, so that the two halves
+     * agree. */
     double slope[N] = {1, 1, 1 / (2 * sd[0]), 1 / (2 * sd[1])};
     for (int i = 0; i < N; i++)
         for (int j = 0; j <= i; j++) covariance[i][j] = covariance[j][i] = slope[i] * slope[j] * (covariance[i][j] + covariance[j][i]) / 2;

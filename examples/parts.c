@@ -1,6 +1,8 @@
-/* Requests in parts, through probit_part and the finishing calls, beside probit_text of the joined bytes: every byte and every value.
- * parts FILE [N]: every cut of the first request of the stored list, example A, into two parts; N seeded cuts (else 4) of each of its requests into many,
- * empty ones among them, whose answers have to be the stored ones too; texts about the most bytes; states of another size, and states that no call made;
+/* Requests in parts, through probit_part and the finishing calls, beside probit_text of the joined bytes: every byte
+ * and every value.
+ * parts FILE [N]: every cut of the first request of the stored list, example A, into two parts; N seeded cuts (else
+ * 4) of each of its requests into many, empty ones among them, whose answers have to be the stored ones too; texts
+ * about the most bytes; states of another size, and states that no call made;
  * last the time of as many parts of one byte as a request may have.
  * Exit status: 1 something differs or takes too long, 2 the file is no list. */
 #include <stdio.h>
@@ -99,7 +101,8 @@ static int numbers_agree(const struct told *t) {
     return end == PROBIT_ANSWERED && said && strtoull(said + 4, NULL, 16) == nll;
 }
 
-/* A text cut at the given places: after its parts both finishing calls, then a part that is refused, then both calls again. */
+/* A text cut at the given places: after its parts both finishing calls, then a part that is refused, then both calls
+ * again. */
 static void cut(const uint8_t *text, size_t n, const size_t *ends, size_t parts, int answer_first, int numbers, const uint8_t *stored, size_t stored_len) {
     static struct state s, after;
     uint8_t whole[PROBIT_TEXT];

@@ -1,8 +1,9 @@
-/* A fit taken up where it stopped. Fits a request, and asks the objective at the reported means and variances, which gives the reported likelihood,
- * gradient and Hessian to the bit. Says whether the SDs' squares are the variances: an SD is a rounded root, and they need not be. Then shows the
- * coordinates with their standard errors.
- * restart < REQUEST: a request as the text program reads it. restart ITERATIONS < REQUEST: also stops the fit after so many iterations, starts a new
- * one from its means and SDs, and holds where that ends against the fit that was not stopped.
+/* A fit taken up where it stopped. Fits a request, and asks the objective at the reported means and variances, which
+ * gives the reported likelihood, gradient and Hessian to the bit. Says whether the SDs' squares are the variances: an
+ * SD is a rounded root, and they need not be. Then shows the coordinates with their standard errors.
+ * restart < REQUEST: a request as the text program reads it. restart ITERATIONS < REQUEST: also stops the fit after
+ * so many iterations, starts a new one from its means and SDs, and holds where that ends against the fit that was not
+ * stopped.
  * Exit status: 1 the reported point gives other bits, 2 the request has no fit or bad usage. */
 #include <inttypes.h>
 #include <stdio.h>

@@ -1,6 +1,9 @@
-/* Every function with short buffers, zero lengths and null pointers of length 0, then on each side of every limit that the header names, and with what is too long.
- * Each slice ends where memory that may be touched ends, or begins where it begins: a read or a write out of it stops the program.
- * Every byte that is not to be written is painted before and looked at after. Under valgrind the slices are blocks of the heap. */
+/* Every function with short buffers, zero lengths and null pointers of length 0, then on each side of every limit
+ * that the header names, and with what is too long.
+ * Each slice ends where memory that may be touched ends, or begins where it begins: a read or a write out of it stops
+ * the program.
+ * Every byte that is not to be written is painted before and looked at after. Under valgrind the slices are blocks of
+ * the heap. */
 #include <stdio.h>
 #include <stdlib.h>
 #include <string.h>
@@ -159,7 +162,8 @@ static void one_summary(size_t l, size_t c, int where) {
     give_back(&ll), give_back(&lc);
 }
 
-/* e estimates of 1 with errors of 1, the identity of e rows in the first v places of the covariance; the first and the last are marked. */
+/* e estimates of 1 with errors of 1, the identity of e rows in the first v places of the covariance; the first and
+ * the last are marked. */
 static void one_interval(size_t e, size_t v, size_t s, size_t n, uint64_t marks, int where) {
     enum { MOST = PROBIT_MAX_ESTIMATES + 1 };
     double ones[MOST + 1], covariance[MOST * MOST + 1];
@@ -196,7 +200,8 @@ static void intervals(int where) {
     }
 }
 
-/* The archive of the four litters: 60 bytes. Written into o bytes; then its first a bytes are asked for a range into c counts, and checked. */
+/* The archive of the four litters: 60 bytes. Written into o bytes; then its first a bytes are asked for a range into
+ * c counts, and checked. */
 enum { ARCHIVE = 12 * 4 + 12 };
 
 static void one_write(size_t l, size_t o, int where) {
@@ -314,7 +319,8 @@ static void one_text(size_t r, size_t o, int where) {
     give_back(&lr), give_back(&lo);
 }
 
-/* As many litters as there may be, and one more. With SDs of 0 each is one evaluation, and one of two pups is at the means' start. */
+/* As many litters as there may be, and one more. With SDs of 0 each is one evaluation, and one of two pups is at the
+ * means' start. */
 static void most_litters(void) {
     double numbers[PROBIT_FIT_NUMBERS];
     uint64_t counts[PROBIT_FIT_COUNTS], end;
@@ -373,7 +379,8 @@ static double beside(double x, int64_t by) {
 static double above(double x) { return beside(x, 1); }
 static double below(double x) { return beside(x, -1); }
 
-/* The fit of the four litters with one number of its bounds, one limit or one litter changed; each fit is over after its first evaluation. */
+/* The fit of the four litters with one number of its bounds, one limit or one litter changed; each fit is over after
+ * its first evaluation. */
 enum what { BOUND, EVALUATIONS, ITERATIONS, QUADRATURE, LITTER };
 static void one_limit(enum what what, size_t i, double x, int taken) {
     double b[PROBIT_BOUNDS], numbers[PROBIT_FIT_NUMBERS];
@@ -431,7 +438,8 @@ static void limits(void) {
     }
 }
 
-/* A fit of n rows with their events in the first, over at its start; and the objective there. A limit of 0 evaluations asks for the objective alone. */
+/* A fit of n rows with their events in the first, over at its start; and the objective there. A limit of 0
+ * evaluations asks for the objective alone. */
 static void one_tall(size_t n, uint32_t sum, uint64_t evaluations, int taken) {
     static uint32_t many[PROBIT_COUNTS_MAX_ROWS + 1];
     static double units[PROBIT_COUNTS_MAX_ROWS + 1];

@@ -1,6 +1,9 @@
-/* A partner's fit vetted. vet < TEXT: a request as the text program reads it, then the three lines of a claim, its numbers in decimal.
- * Says the verdict on the claim, and what the objective has at the claimed point; then fits the request, and vets what the fit reports.
- * Exit status: 1 the fit's own claim is not accepted with its own norm, 2 the text is not as above or the request has no converged fit. */
+/* A partner's fit vetted. vet < TEXT: a request as the text program reads it, then the three lines of a claim, its
+ * numbers in decimal.
+ * Says the verdict on the claim, and what the objective has at the claimed point; then fits the request, and vets
+ * what the fit reports.
+ * Exit status: 1 the fit's own claim is not accepted with its own norm, 2 the text is not as above or the request has
+ * no converged fit. */
 #include <stdio.h>
 #include <string.h>
 

@@ -66,8 +66,8 @@ enum {
     PROBIT_NO_REASON = 0,
     PROBIT_MODE_NOT_BRACKETED = 1,
     PROBIT_MODE_NOT_CONVERGED = 2,
-    PROBIT_TAIL_NOT_BOUNDED = 3, /* by a number at most its goal */
-    PROBIT_NOT_FINITE = 4, /* an integral or a derivative, or the total is not positive */
+    PROBIT_TAIL_NOT_BOUNDED = 3, /* by a finite number at most its goal */
+    PROBIT_NOT_FINITE = 4, /* an integral or a derivative, or the integral is not above zero */
     PROBIT_REFINEMENT_NOT_CONVERGED = 5,
     PROBIT_TOTAL_NOT_FINITE = 6 /* of no litter or row: an entry of the likelihood, the gradient or the Hessian, with all of them summed */
 };
@@ -288,7 +288,7 @@ uint64_t probit_archive_check(const uint8_t *archive, size_t archive_len);
  * events, exposures: as many of each, a row's at one position. Exposures and rates are finite and above 0, all in one unit: which, the host knows.
  * A pass is one turn of the inner loop, one for each event of each row at each evaluation of the objective: so events times evaluations.
  * Refusals put zeros, but for the passes made and the reason. PROBIT_INVALID_INPUT: what is asked here does not hold, and no pass was made; with another
- * number of exposures than events too. PROBIT_DOMAIN with PROBIT_TOTAL_NOT_FINITE: the likelihood or a derivative is not finite.
+ * number of exposures than events too. PROBIT_DOMAIN with PROBIT_TOTAL_NOT_FINITE, and no other reason.
  * Where bounds_len is not PROBIT_COUNTS_BOUNDS, or a buffer is too short, the value is PROBIT_INVALID_INPUT and nothing is written.
  * Elements after the places are left as they were. */
 #define PROBIT_COUNTS_MIN_SHAPE 1e-8

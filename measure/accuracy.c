@@ -463,7 +463,8 @@ int main(int argc, char **argv) {
         seed = strtoull(argv[next], &end, 0);
         if (argc > next + 1 || end == argv[next] || *end) { fprintf(stderr, "usage: accuracy [full] [SEED]\n"); return 2; }
     }
-    // MPFR rounds each result right to 120 bits: what it leaves is below 2^-66 of a last place, next to a zero of the function too.
+    // MPFR rounds each result right to 120 bits: what it leaves is below 2^-66 of a last place, next to a zero of the
+    // function too.
     mpfr_inits2(53, X, Z, (mpfr_ptr)0);
     mpfr_inits2(120, Y, D, (mpfr_ptr)0);
 

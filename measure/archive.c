@@ -1,4 +1,5 @@
-/* The time of a range in an archive of 64 litters and in one of 4,096, for ranges that read as much: best of several runs, one archive after the other. */
+/* The time of a range in an archive of 64 litters and in one of 4,096, for ranges that read as much: best of several
+ * runs, one archive after the other. */
 #include <stdio.h>
 #include <stdlib.h>
 #include <string.h>

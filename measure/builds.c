@@ -1,4 +1,5 @@
-// Two builds of the library, loaded side by side: the time of each request's whole answer, old and new in turn, the best round of each.
+// Two builds of the library, loaded side by side: the time of each request's whole answer, old and new in turn, the
+// best round of each.
 #include <dlfcn.h>
 #include <stdint.h>
 #include <stdio.h>

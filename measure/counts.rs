@@ -1,5 +1,7 @@
-// Times the fit of counts per exposure: ours, the Rust module over libm 0.2.1 and over our elementary functions. One run, all in turn, the best of several.
-// counts [ROUNDS]. Prints the time of a fit and of a pass of its inner loop, and how an objective's time grows with its passes and its rows.
+// Times the fit of counts per exposure: ours, the Rust module over libm 0.2.1 and over our elementary functions. One
+// run, all in turn, the best of several.
+// counts [ROUNDS]. Prints the time of a fit and of a pass of its inner loop, and how an objective's time grows with
+// its passes and its rows.
 // Exit status: 1 a pass costs half as much again where there are more of them, 2 the sides disagree or bad usage.
 use qspquest_core::discrete_fit::{CountExposure, DiscreteFitResult as Fit, GammaPoissonFitRequest as Request};
 use qspquest_core::fit::FitStatus;
@@ -7,35 +9,21 @@ use qspquest_core::model::Quantity;
 use qspquest_core::Error;
 use std::hint::black_box;
 
+mod timing;
+use timing::{best, Draw};
+
 /// A pass of a large objective beside one of a small.
 const GROWTH: f64 = 1.5;
 
-unsafe extern "C" {
-    fn clock_gettime(clock: i32, time: *mut [i64; 2]) -> i32;
-    fn probit_counts_objective(
-        shape: f64, rate: f64, events: *const u32, events_len: usize, exposures: *const f64, exposures_len: usize, numbers: *mut f64, numbers_len: usize,
-        counts: *mut u64, counts_len: usize,
-    ) -> u64;
-    fn probit_counts_fit(
-        bounds: *const f64, bounds_len: usize, tolerance: f64, evaluations: u64, iterations: u64, events: *const u32, events_len: usize,
-        exposures: *const f64, exposures_len: usize, numbers: *mut f64, numbers_len: usize, counts: *mut u64, counts_len: usize,
-    ) -> u64;
-}
+#[path = "../oracle/counts_entries.rs"]
+mod counts_entries;
+use counts_entries::{probit_counts_fit, probit_counts_objective};
 
 type Side = fn(&Request) -> Result<Fit, Error>;
 
 fn fail(message: &str) -> ! {
     eprintln!("counts: {message}");
     std::process::exit(2)
-}
-
-/// Numbers that are the same in each run.
-struct Draw(u64);
-impl Draw {
-    fn below(&mut self, n: u32) -> u32 {
-        self.0 = self.0.wrapping_mul(6364136223846793005).wrapping_add(1442695040888963407);
-        ((self.0 >> 33) % u64::from(n)) as u32
-    }
 }
 
 const BOUNDS: [f64; 6] = [1e-3, 1e3, 1., 1e-3, 1e3, 1.];
@@ -93,31 +81,6 @@ impl Rows {
         black_box(numbers);
         counts[0]
     }
-}
-
-/// The thread's own seconds: what other programs take of the machine does not count.
-fn now() -> f64 {
-    let mut time = [0; 2];
-    // CLOCK_THREAD_CPUTIME_ID of Linux.
-    if unsafe { clock_gettime(3, &mut time) } != 0 {
-        fail("there is no clock");
-    }
-    time[0] as f64 + 1e-9 * time[1] as f64
-}
-
-/// Seconds of one call, the best of some rounds of at least 20 ms.
-fn best(rounds: usize, f: impl Fn()) -> f64 {
-    let start = now();
-    f();
-    let once = now() - start;
-    let calls = ((0.02 / once).ceil() as usize).clamp(1, 1_000_000);
-    (0..rounds)
-        .map(|_| {
-            let start = now();
-            (0..calls).for_each(|_| f());
-            (now() - start) / calls as f64
-        })
-        .fold(once, f64::min)
 }
 
 fn beside(number: usize, most: u32, rounds: usize) {

@@ -1,4 +1,5 @@
-# Times glmer on litters of 5 to 13 pups, both groups, each by itself: probit link, 50 points. The processor's time, the best of five.
+# Times glmer on litters of 5 to 13 pups, both groups, each by itself: probit link, 50 points. The processor's time,
+# the best of five.
 suppressMessages(library(lme4))
 set.seed(1)
 fit <- function(d) suppressWarnings(suppressMessages(glmer(cbind(y, n - y) ~ 1 + (1 | litter), data = d, family = binomial("probit"), nAGQ = 50)))

@@ -1,5 +1,7 @@
-// Times whole fits: ours through the text entry, the Rust module over libm 0.2.1 and over our elementary functions. One run, all in turn, the best of several.
-// fits [ROUNDS]. Prints the time of a fit and of an evaluation, how it grows with litters, pups and panels, and what reading and printing take.
+// Times whole fits: ours through the text entry, the Rust module over libm 0.2.1 and over our elementary functions.
+// One run, all in turn, the best of several.
+// fits [ROUNDS]. Prints the time of a fit and of an evaluation, how it grows with litters, pups and panels, and what
+// reading and printing take.
 // Exit status: 1 a target is missed, 2 the sides disagree or bad usage.
 use qspquest_core::fit::FitStatus;
 use qspquest_core::probit_fit::{
@@ -8,6 +10,9 @@ use qspquest_core::probit_fit::{
 use qspquest_core::Error;
 use std::hint::black_box;
 
+mod timing;
+use timing::{best, Draw};
+
 /// Of the Rust over libm 0.2.1, up to 50 pups a litter and beyond, and of the Rust over our functions.
 const OF_LIBM: [f64; 2] = [0.30, 0.35];
 const OF_OURS: f64 = 0.55;
@@ -15,7 +20,6 @@ const OF_OURS: f64 = 0.55;
 const AROUND: f64 = 0.01;
 
 unsafe extern "C" {
-    fn clock_gettime(clock: i32, time: *mut [i64; 2]) -> i32;
     fn probit_text(text: *const u8, text_len: usize, out: *mut u8, out_len: usize) -> u64;
 }
 
@@ -51,16 +55,8 @@ fn text(r: &Request) -> String {
     s + &format!("rows {} at {at}\n", r.observations.len())
 }
 
-/// Numbers that are the same in each run.
-struct Draw(u64);
-impl Draw {
-    fn below(&mut self, n: u32) -> u32 {
-        self.0 = self.0.wrapping_mul(6364136223846793005).wrapping_add(1442695040888963407);
-        ((self.0 >> 33) % u64::from(n)) as u32
-    }
-}
-
-/// Litters of `least` to `most` pups; how many of ten are affected varies from litter to litter, and is more in group 1.
+/// Litters of `least` to `most` pups; how many of ten are affected varies from litter to litter, and is more in group
+/// 1.
 fn case(name: &str, number: usize, least: u32, most: u32) -> Case {
     let mut draw = Draw(7);
     let observations: Vec<Litter> = (0..number)
@@ -108,31 +104,6 @@ fn rust(c: &Case, f: Side) -> Fit {
 /// Ours, by lines: the counts, and the rest as told.
 fn told<'a>(answer: &'a str, word: &str) -> &'a str {
     answer.lines().find_map(|l| l.strip_prefix(word)).unwrap_or_else(|| fail(&format!("no line {word} in\n{answer}")))
-}
-
-/// The thread's own seconds: what other programs take of the machine does not count.
-fn now() -> f64 {
-    let mut time = [0; 2];
-    // CLOCK_THREAD_CPUTIME_ID of Linux.
-    if unsafe { clock_gettime(3, &mut time) } != 0 {
-        fail("there is no clock");
-    }
-    time[0] as f64 + 1e-9 * time[1] as f64
-}
-
-/// Seconds of one call, the best of some rounds of at least 20 ms.
-fn best(rounds: usize, f: impl Fn()) -> f64 {
-    let start = now();
-    f();
-    let once = now() - start;
-    let calls = ((0.02 / once).ceil() as usize).clamp(1, 1_000_000);
-    (0..rounds)
-        .map(|_| {
-            let start = now();
-            (0..calls).for_each(|_| f());
-            (now() - start) / calls as f64
-        })
-        .fold(once, f64::min)
 }
 
 fn three(c: &Case, rounds: usize) -> ([f64; 3], u64) {
@@ -222,7 +193,8 @@ fn main() {
             }
         }
     }
-    // Every answer is printed whole: variance 0 throughout, so that the fit is four evaluations and the rest is reading and printing.
+    // Every answer is printed whole: variance 0 throughout, so that the fit is four evaluations and the rest is
+    // reading and printing.
     let mut c = of("", (0..4).map(|i| Litter { successes: 1, total: 2, group: i / 2 }).collect());
     (c.request.initial_sds, c.request.max_quadrature_evaluations) = ([0.; 2], 4);
     let small = text(&c.request);

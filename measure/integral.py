@@ -5,7 +5,7 @@ The derivatives are taken of the normal density and not of the litter's likeliho
 the k-th derivative in the mean is the integral of the likelihood times the density times the Hermite polynomial of degree k.
 The trapezoidal rule is halved until two agree to thirty digits.
 
-measure/integral.py [POINTS]. PROBIT_LEAVES=FILE: that library, none is built.
+measure/integral.py [POINTS]. PROBIT_INNER=FILE: that library, none is built.
 Exit status: 1 a gap is above its limit or a point is refused, 2 bad usage, 3 something is missing.
 """
 import ctypes
@@ -25,7 +25,8 @@ DIGITS = 30
 mp.dps = 50
 LIMIT = 8388608
 POINTS = 100
-# Some ten times the largest gaps of 400 points: 7.0e-13, 1.1e-13, 1.8e-11. Gradient and Hessian are relative to 1 + |exact|.
+# Some ten times the largest gaps of 400 points: 7.0e-13, 1.1e-13, 1.8e-11. Gradient and Hessian are relative to 1 +
+# |exact|.
 LIMITS = {"likelihood": 1e-11, "gradient": 1e-12, "hessian": 2e-10}
 
 
@@ -36,34 +37,34 @@ def missing(text):
 
 def library():
     """The static library as one that ctypes can load."""
-    archive = os.environ.get("PROBIT_LEAVES")
+    archive = os.environ.get("PROBIT_INNER")
     if archive:
         archive = os.path.abspath(archive)
     os.chdir(os.path.join(os.path.dirname(os.path.abspath(__file__)), ".."))
     try:
         if not archive:
-            if subprocess.run(["rt", "staticlib", "leaves"]).returncode:
-                missing("'rt staticlib leaves' made no library")
-            archive = "target/staticlib/libleaves.a"
+            if subprocess.run(["rt", "staticlib", "inner"]).returncode:
+                missing("'rt staticlib inner' made no library")
+            archive = "target/staticlib/libinner.a"
         os.makedirs("target/measure", exist_ok=True)
-        shared = os.path.abspath("target/measure/libleaves.so")
+        shared = os.path.abspath("target/measure/libinner.so")
         link = ["gcc", "-shared", "-o", shared, "-Wl,--whole-archive", archive, "-Wl,--no-whole-archive"]
         if subprocess.run(link).returncode:
             missing("gcc does not link " + archive)
     except FileNotFoundError as e:
         missing(e.filename + " is not there")
-    leaf = ctypes.CDLL(shared).leaf_objective
-    leaf.restype = ctypes.c_uint64
+    inner = ctypes.CDLL(shared).inner_objective
+    inner.restype = ctypes.c_uint64
     number, count = ctypes.c_double, ctypes.c_size_t
-    leaf.argtypes = [number] * 4 + [ctypes.c_void_p, count, ctypes.c_uint64, ctypes.c_void_p, count, ctypes.c_void_p, count]
-    return leaf
+    inner.argtypes = [number] * 4 + [ctypes.c_void_p, count, ctypes.c_uint64, ctypes.c_void_p, count, ctypes.c_void_p, count]
+    return inner
 
 
-def objective(leaf, x, litters):
+def objective(inner, x, litters):
     """Value, gradient, Hessian; or the ending and its reason."""
     flat = (ctypes.c_uint32 * (3 * len(litters)))(*[n for litter in litters for n in litter])
     out, counts = (ctypes.c_double * 22)(), (ctypes.c_uint64 * 3)()
-    if leaf(*x, flat, len(flat), LIMIT, out, len(out), counts, len(counts)):
+    if inner(*x, flat, len(flat), LIMIT, out, len(out), counts, len(counts)):
         sys.exit("integral: the library calls the buffers too short")
     if counts[0]:
         return None, (counts[0], counts[1])
@@ -173,11 +174,11 @@ def main():
     if len(sys.argv) > 2 or not all(a.isdigit() for a in sys.argv[1:]):
         print("usage: measure/integral.py [POINTS]", file=sys.stderr)
         return 2
-    leaf = library()
+    inner = library()
     largest = {name: (0.0, None) for name in LIMITS}
     refused = 0
     for x, litters in points(int(sys.argv[1]) if sys.argv[1:] else POINTS):
-        got, why = objective(leaf, x, litters)
+        got, why = objective(inner, x, litters)
         if got is None:
             refused += 1
             print("refused:", x, litters, "ending and reason", why)

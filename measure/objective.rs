@@ -1,10 +1,14 @@
-// The objective's time for each evaluation of the integrand: ours, and the Rust module over libm 0.2.1 and over our elementary functions.
+// The objective's time for each evaluation of the integrand: ours, and the Rust module over libm 0.2.1 and over our
+// elementary functions.
 // One run, the three in turn, the best of many rounds. Then the stack that ours takes, from a painted buffer.
 // Exit status: 1 the target is missed, 2 the sides disagree.
 use qspquest_core::probit_fit::{BinomialLitter as Litter, ProbitNormalObjective as Objective};
 use qspquest_core::Error;
 use std::hint::black_box;
 use std::time::Instant;
+
+mod timing;
+use timing::Draw;
 
 const ROUNDS: usize = 25;
 const LIMIT: u64 = 8388608;
@@ -14,7 +18,7 @@ const STACK: usize = 1 << 18;
 const PAINT: u8 = 0xa5;
 
 unsafe extern "C" {
-    fn leaf_objective(
+    fn inner_objective(
         x0: f64, x1: f64, x2: f64, x3: f64, litters: *const u32, litters_len: usize, limit: u64,
         out: *mut f64, out_len: usize, counts: *mut u64, counts_len: usize,
     ) -> u64;
@@ -39,7 +43,7 @@ fn ours(c: &Case) -> Answer {
     let mut counts = [0u64; 3];
     let [x0, x1, x2, x3] = c.x;
     let status = unsafe {
-        leaf_objective(x0, x1, x2, x3, c.flat.as_ptr(), c.flat.len(), LIMIT, out.as_mut_ptr(), out.len(), counts.as_mut_ptr(), counts.len())
+        inner_objective(x0, x1, x2, x3, c.flat.as_ptr(), c.flat.len(), LIMIT, out.as_mut_ptr(), out.len(), counts.as_mut_ptr(), counts.len())
     };
     if status != 0 || counts[0] != 0 {
         fail(&format!("ours refuses {}: status {status}, ending {counts:?}", c.name));
@@ -57,15 +61,6 @@ fn rust(c: &Case, f: Sides) -> Answer {
 fn fail(message: &str) -> ! {
     eprintln!("objective: {message}");
     std::process::exit(2)
-}
-
-/// Numbers that are the same in each run.
-struct Draw(u64);
-impl Draw {
-    fn below(&mut self, n: u32) -> u32 {
-        self.0 = self.0.wrapping_mul(6364136223846793005).wrapping_add(1442695040888963407);
-        ((self.0 >> 33) % u64::from(n)) as u32
-    }
 }
 
 /// Litters of `least` to `most` pups, affected or not by halves.

@@ -1,4 +1,5 @@
-// Times probit_text on requests whose work limit is too high: each is read whole, and refused without a fit. The least of several runs, in the processor's time.
+// Times probit_text on requests whose work limit is too high: each is read whole, and refused without a fit. The
+// least of several runs, in the processor's time.
 #include <stdio.h>
 #include <stdlib.h>
 #include <string.h>

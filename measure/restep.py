@@ -1,8 +1,11 @@
 #!/usr/bin/env python3
-# Runs the steps of docs/ELEMENTARY.md and compares each function with the static library, bit for bit; any NaN equals any other.
-# The steps and constants are read from that page's blocks, the tables from tools/coefficients.txt; the constants are compared with the definitions too.
+# Runs the steps of docs/ELEMENTARY.md and compares each function with the static library, bit for bit; any NaN equals
+# any other.
+# The steps and constants are read from that page's blocks, the tables from tools/coefficients.txt; the constants are
+# compared with the definitions too.
 # measure/restep.py [short]. Takes about 20 s, short about 3. PROBIT_LIB=FILE: that library, none is built.
-# Exit status: 1 values differ, or the page has no steps of its form, or something does not build; 2 bad usage, 3 something is missing.
+# Exit status: 1 values differ, or the page has no steps of its form, or something does not build; 2 bad usage, 3
+# something is missing.
 import ast
 import ctypes
 import math
@@ -58,7 +61,8 @@ def lz(n):
     return 64 - n.bit_length()
 
 
-# The page. Its steps are Python's once div, mod, ^ and repeat are, so Python's own parser reads them; what it may not hold is refused.
+# The page. Its steps are Python's once div, mod, ^ and repeat are, so Python's own parser reads them; what it may not
+# hold is refused.
 PAGE = "docs/ELEMENTARY.md"
 CONSTANT = re.compile(r"\b([A-Z][A-Z0-9_]*) +(u64 +)?([0-9a-f]{16})\b")
 TABLE = re.compile(r"^\| ([A-Z_]+) \| (\d+) \| (\d+) \|", re.M)

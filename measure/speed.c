@@ -72,7 +72,8 @@ static double call(const struct set *f, char which, int i) {
     return r.log_left + r.mills_left + r.log_right + r.mills_right;
 }
 
-// Chained: the argument takes up 0 times the last result, so a call waits for the one before. Seconds for PASSES passes.
+// Chained: the argument takes up 0 times the last result, so a call waits for the one before. Seconds for PASSES
+// passes.
 static double run(const struct set *f, char which, bool chained) {
     double s = 0, start = seconds();
     if (which == 'n') {

@@ -1,4 +1,5 @@
-/* The stack that each exported function takes: the bytes below the top of a painted stack that a call, with its caller, left changed, over several requests.
+/* The stack that each exported function takes: the bytes below the top of a painted stack that a call, with its
+ * caller, left changed, over several requests.
  * Exit status: 1 more than docs/EMBEDDING.md says, 2 a study does not end as it is meant to. */
 #include <stdio.h>
 #include <stdlib.h>
@@ -61,7 +62,8 @@ static double ends[PROBIT_INTERVALS_NUMBERS];
 
 static void intervals(void) { probit_intervals(estimates, 2, covariance, 4, errors, 2, 3, ends, PROBIT_INTERVALS_NUMBERS); }
 
-/* an archive of the study's litters, as often as its 4,096 hold them; the range reads 63 litters at each end where there are as many */
+/* an archive of the study's litters, as often as its 4,096 hold them; the range reads 63 litters at each end where
+ * there are as many */
 static uint32_t past[3 * PROBIT_MAX_ARCHIVE];
 static uint8_t archive[PROBIT_MAX_ARCHIVE_BYTES];
 static size_t kept;

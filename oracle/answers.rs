@@ -1,6 +1,7 @@
 // The oracle as a library: reads a request, runs the module on it and gives its answer in our print.
 // Each fit, objective and row is run twice, on the text as given and on the copy with hooks, and both must agree.
-// What Rust leaves open is here as rustc has it. Its sum starts at -0.0: that shows in the call tail_bound alone, where the slope is minus infinity.
+// What Rust leaves open is here as rustc has it. Its sum starts at -0.0: that shows in the call tail_bound alone,
+// where the slope is minus infinity.
 // Its powi multiplies as ours does. No max or min of the module meets two zeros whose signs an answer could show.
 pub use hook::{Evaluation, Seen};
 use qspquest_core::fit::FitStatus;
@@ -123,7 +124,8 @@ pub fn read(text: &[u8]) -> Result<Request, usize> {
     })
 }
 
-// The answers in print. What they leave out (hash, algorithm, source) document 01 leaves behind. What the module's record has not, the hooks tell (document 02 §6).
+// The answers in print. What they leave out (hash, algorithm, source) document 01 leaves behind. What the module's
+// record has not, the hooks tell (document 02 §6).
 
 pub trait Answer {
     fn print(&self, seen: &Seen) -> String;
@@ -175,7 +177,8 @@ impl Answer for opened::OpenRow {
     }
 }
 
-/// Runs both texts and gives the answer in print with the evaluations that were seen. A panic of the module is an answer too: one line, `panic`.
+/// Runs both texts and gives the answer in print with the evaluations that were seen. A panic of the module is an
+/// answer too: one line, `panic`.
 pub fn judge<T: Answer>(
     limit: usize,
     listing: bool,

@@ -1,4 +1,5 @@
-/* Calls the archive's functions as oracle/archives.py asks, by numbers on standard input, and puts out what they answered. Little-endian throughout.
+/* Calls the archive's functions as oracle/archives.py asks, by numbers on standard input, and puts out what they
+ * answered. Little-endian throughout.
  *   A length bytes      the archive that R and C speak of
  *   R from to           the value and eight counts, which were marked before the call
  *   C                   the value

@@ -1,7 +1,10 @@
 #!/usr/bin/env python3
-# An archive's reader, checker and writer of its own, written from docs/FORMAT.md, held against the library through C: values, counts and every byte.
-# oracle/archives.py SEED NUMBER: that many rounds, or short; fuzz MINUTES [SEED]. PROBIT_TEXT=FILE: the library libprobit.a, else `rt staticlib probit` makes it.
-# Exit status: 1 an answer differs, or something does not build or is not where a variable says, 2 bad usage, 3 something is missing.
+# An archive's reader, checker and writer of its own, written from docs/FORMAT.md, held against the library through C:
+# values, counts and every byte.
+# oracle/archives.py SEED NUMBER: that many rounds, or short; fuzz MINUTES [SEED]. PROBIT_TEXT=FILE: the library
+# libprobit.a, else `rt staticlib probit` makes it.
+# Exit status: 1 an answer differs, or something does not build or is not where a variable says, 2 bad usage, 3
+# something is missing.
 import os
 import pathlib
 import random

@@ -1,5 +1,5 @@
-// Stands in for qspquest_core: the records of probit_normal.rs, as given, those of discrete_fit.rs, which were not, by their use there, and as much as the two
-// fits ask of the crate besides.
+// Stands in for qspquest_core: the records of probit_normal.rs, as given, those of discrete_fit.rs, which were not,
+// by their use there, and as much as the two fits ask of the crate besides.
 #[path = "../target/oracle/given/crates/qspquest-core/src/probit_fit.rs"]
 pub mod probit_fit;
 
@@ -10,16 +10,8 @@ pub enum ErrorCode {
     WorkBudget,
 }
 
-#[derive(Clone, Debug)]
-pub struct Error {
-    pub code: ErrorCode,
-    pub message: String,
-}
-impl Error {
-    pub fn new(code: ErrorCode, message: impl Into<String>) -> Self {
-        Error { code, message: message.into() }
-    }
-}
+mod error;
+pub use error::Error;
 
 pub mod fit {
     #[derive(Clone, Copy, Debug, PartialEq)]

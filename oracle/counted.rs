@@ -1,5 +1,5 @@
-// The crate libm of oracle/counts: our functions, from oracle/libm.rs. The module's inner loop takes one logarithm a pass, and once its first exponential
-// was taken it takes no others: so the passes are counted here.
+// The crate libm of oracle/counts: our functions, from oracle/libm.rs. The module's inner loop takes one logarithm a
+// pass, and once its first exponential was taken it takes no others: so the passes are counted here.
 pub use ours::{hypot, lgamma, log1p};
 use std::sync::atomic::{AtomicU64, Ordering::Relaxed};
 

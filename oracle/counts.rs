@@ -1,6 +1,8 @@
 // Holds our Gamma-Poisson objective and fit against discrete_fit.rs, unaltered, to the bit. counts SEED NUMBER
-// The module's functions of the crate libm are ours, from oracle/counted.rs. Its units are left behind: a number is taken as it is, and has to be finite (oracle/core.rs).
-// Each limit is met just inside and just outside. Where answers differ, the smallest request found is printed, made smaller by what can be left out of it.
+// The module's functions of the crate libm are ours, from oracle/counted.rs. Its units are left behind: a number is
+// taken as it is, and has to be finite (oracle/core.rs).
+// Each limit is met just inside and just outside. Where answers differ, the smallest request found is printed, made
+// smaller by what can be left out of it.
 use given::{fit_gamma_poisson, gamma_poisson_objective};
 use qspquest_core::discrete_fit::{CountExposure, GammaPoissonFitRequest};
 use qspquest_core::fit::FitStatus;
@@ -9,16 +11,13 @@ use qspquest_core::ErrorCode;
 use std::collections::BTreeMap;
 use std::process::exit;
 
-unsafe extern "C" {
-    fn probit_counts_objective(
-        shape: f64, rate: f64, events: *const u32, events_len: usize, exposures: *const f64, exposures_len: usize, numbers: *mut f64, numbers_len: usize,
-        counts: *mut u64, counts_len: usize,
-    ) -> u64;
-    fn probit_counts_fit(
-        bounds: *const f64, bounds_len: usize, tolerance: f64, evaluations: u64, iterations: u64, events: *const u32, events_len: usize,
-        exposures: *const f64, exposures_len: usize, numbers: *mut f64, numbers_len: usize, counts: *mut u64, counts_len: usize,
-    ) -> u64;
-}
+mod draw;
+use draw::Draw;
+mod rank;
+use rank::{of_rank, rank};
+
+mod counts_entries;
+use counts_entries::{probit_counts_fit, probit_counts_objective};
 
 /// The objective is asked at the start.
 #[derive(Clone, Copy, Debug, PartialEq)]
@@ -194,7 +193,8 @@ fn hold(seen: &mut Seen, a: &Asked) -> Answer {
     seen.passes += mine.counts[if a.entry == Fit { 3 } else { 0 }];
     if a.entry == Fit && mine.end == 0 {
         *seen.marks.entry((mine.counts[6], mine.counts[7])).or_insert(0) += 1;
-        // Of a fit that passed its checks the passes are the events times the calls, and at most the product that was checked.
+        // Of a fit that passed its checks the passes are the events times the calls, and at most the product that was
+        // checked.
         let (events, most) = (size(a).1, a.evaluations);
         if mine.counts[3] != events * mine.counts[1] || mine.counts[3] > (events + a.events.len() as u64) * most {
             fail("the passes are not the events times the calls, or past the product", a);
@@ -229,24 +229,7 @@ fn smaller(mut a: Asked) -> Asked {
     }
 }
 
-/// Numbers by splitmix64: the same in each run of a seed.
-struct Draw(u64);
 impl Draw {
-    fn next(&mut self) -> u64 {
-        self.0 = self.0.wrapping_add(0x9e37_79b9_7f4a_7c15);
-        let z = (self.0 ^ self.0 >> 30).wrapping_mul(0xbf58_476d_1ce4_e5b9);
-        let z = (z ^ z >> 27).wrapping_mul(0x94d0_49bb_1331_11eb);
-        z ^ z >> 31
-    }
-    fn below(&mut self, n: usize) -> usize {
-        (self.next() % n as u64) as usize
-    }
-    fn unit(&mut self) -> f64 {
-        (self.next() >> 11) as f64 / (1u64 << 53) as f64
-    }
-    fn one_in(&mut self, n: usize) -> bool {
-        self.below(n) == 0
-    }
     /// 10 to a power between the two
     fn decades(&mut self, from: f64, to: f64) -> f64 {
         10f64.powf(from + (to - from) * self.unit())
@@ -256,7 +239,7 @@ impl Draw {
         f64::from_bits(1 + self.next() % (f64::MAX.to_bits()))
     }
     fn among<T: Copy>(&mut self, of: &[T]) -> T {
-        of[self.below(of.len())]
+        of[self.place(of.len())]
     }
 }
 
@@ -268,7 +251,7 @@ const ODD: [f64; 16] = [
 /// low, high and start, the start now and then on a bound
 fn range(d: &mut Draw, low: f64, high: f64) -> [f64; 3] {
     let (low, high) = if low < high { (low, high) } else { (high, low) };
-    let start = match d.below(8) {
+    let start = match d.place(8) {
         0 => low,
         1 => high,
         _ => (low.ln() + (high.ln() - low.ln()) * d.unit()).exp().clamp(low, high),
@@ -300,54 +283,54 @@ fn rows(d: &mut Draw, number: usize, shape: f64, rate: f64, spread: f64) -> (Vec
 
 fn asked(d: &mut Draw) -> Asked {
     let entry = if d.one_in(4) { Objective } else { Fit };
-    let kind = d.below(100);
+    let kind = d.place(100);
     let (shape, rate) = (d.decades(-1., 2.), d.decades(-2., 2.));
     let mut a = match kind {
         // few rows of few events, few calls
         0..20 => {
-            let number = 1 + d.below(4);
+            let number = 1 + d.place(4);
             let bounds = [range(d, 0.125, 8.), range(d, 0.25, 16.)].concat();
-            let events = (0..number).map(|_| d.below(4) as u32).collect();
+            let events = (0..number).map(|_| d.place(4) as u32).collect();
             let exposures = (0..number).map(|_| d.among(&[0.5, 1., 2., 3.])).collect();
-            Asked { entry, bounds, tolerance: d.decades(-9., 0.), evaluations: 1 + d.below(8) as u64, iterations: 1 + d.below(5) as u64, events, exposures }
+            Asked { entry, bounds, tolerance: d.decades(-9., 0.), evaluations: 1 + d.place(8) as u64, iterations: 1 + d.place(5) as u64, events, exposures }
         }
         // exposures, rates and shapes of any size
         20..40 => {
-            let number = 2 + d.below(5);
+            let number = 2 + d.place(5);
             let near = d.one_in(2);
             let at = d.positive();
             let (low, high) = (d.positive(), d.positive());
             let rates = if near { rate_around(d, at.clamp(1e-300, 1e300)) } else { range(d, low, high) };
             let (low, high) = (d.decades(-8., 6.), d.decades(-8., 6.));
             let bounds = [range(d, low.clamp(1e-8, 1e6), high.clamp(1e-8, 1e6)), rates].concat();
-            let events = (0..number).map(|_| d.below(20) as u32).collect();
+            let events = (0..number).map(|_| d.place(20) as u32).collect();
             let exposures = (0..number).map(|_| if near { (at * d.decades(-2., 2.)).clamp(5e-324, f64::MAX) } else { d.positive() }).collect();
-            Asked { entry, bounds, tolerance: d.decades(-12., 3.), evaluations: 1 + d.below(60) as u64, iterations: 1 + d.below(60) as u64, events, exposures }
+            Asked { entry, bounds, tolerance: d.decades(-12., 3.), evaluations: 1 + d.place(60) as u64, iterations: 1 + d.place(60) as u64, events, exposures }
         }
         // bounds that are near each other
         40..50 => {
-            let number = 2 + d.below(6);
+            let number = 2 + d.place(6);
             let (events, exposures) = rows(d, number, shape, rate, 1.);
-            let step = d.below(53);
+            let step = d.place(53);
             let near = move |d: &mut Draw, x: f64| {
                 let by = (d.next() >> (10 + step)) as i64;
                 let y = of_rank((rank(x) + by).min(rank(if x < 1e6 { 1e6 } else { f64::MAX })));
-                let start = of_rank(rank(x) + (rank(y) - rank(x)) / (1 + d.below(3)) as i64);
+                let start = of_rank(rank(x) + (rank(y) - rank(x)) / (1 + d.place(3)) as i64);
                 [x, y, start]
             };
             let bounds = [near(d, shape), near(d, rate)].concat();
-            Asked { entry, bounds, tolerance: d.decades(-9., 0.), evaluations: 1 + d.below(40) as u64, iterations: 1 + d.below(40) as u64, events, exposures }
+            Asked { entry, bounds, tolerance: d.decades(-9., 0.), evaluations: 1 + d.place(40) as u64, iterations: 1 + d.place(40) as u64, events, exposures }
         }
         // a slope of nothing is asked for
         50..60 => {
-            let number = 2 + d.below(8);
+            let number = 2 + d.place(8);
             let (events, exposures) = rows(d, number, shape, rate, 1.);
             let bounds = [shape_around(d, shape), rate_around(d, rate)].concat();
             Asked { entry, bounds, tolerance: d.among(&[5e-324, 2.2250738585072014e-308, 1e-16, 1e-15]), evaluations: 200, iterations: 100, events, exposures }
         }
         // a slope that is almost nothing: no events, and exposures that are nothing beside the rate
         60..65 => {
-            let number = 2 + d.below(3);
+            let number = 2 + d.place(3);
             let size = d.decades(-323., -60.);
             let mut bounds = [shape_around(d, shape), rate_around(d, rate)].concat();
             for i in [SHAPE, RATE].into_iter().filter(|_| d.one_in(2)) {
@@ -363,27 +346,27 @@ fn asked(d: &mut Draw) -> Asked {
             let rate = shape / d.decades(-1., 1.);
             let (events, exposures) = rows(d, number, shape, rate, 0.5);
             let bounds = [shape_around(d, shape), rate_around(d, rate)].concat();
-            Asked { entry, bounds, tolerance: d.decades(-9., -1.), evaluations: 1 + d.below(40) as u64, iterations: 40, events, exposures }
+            Asked { entry, bounds, tolerance: d.decades(-9., -1.), evaluations: 1 + d.place(40) as u64, iterations: 40, events, exposures }
         }
         _ => {
-            let number = 2 + d.below(30);
+            let number = 2 + d.place(30);
             let spread = 1.5 * d.unit();
             let (events, exposures) = rows(d, number, shape, rate, spread);
             let wide = [range(d, 1e-8, 1e6), range(d, rate * 1e-6, rate * 1e6)];
             let bounds = if d.one_in(2) { wide.concat() } else { [shape_around(d, shape), rate_around(d, rate)].concat() };
             let most = if d.one_in(4) { 5 } else { 200 };
-            let (evaluations, iterations) = (1 + d.below(200) as u64, 1 + d.below(most) as u64);
+            let (evaluations, iterations) = (1 + d.place(200) as u64, 1 + d.place(most) as u64);
             Asked { entry, bounds, tolerance: d.decades(-11., -1.), evaluations, iterations, events, exposures }
         }
     };
     if d.one_in(8) {
-        let odd = ODD[d.below(ODD.len())];
-        match d.below(8) {
-            0..3 => a.bounds[d.below(6)] = odd,
+        let odd = ODD[d.place(ODD.len())];
+        match d.place(8) {
+            0..3 => a.bounds[d.place(6)] = odd,
             3 | 4 => *d.any(&mut a.exposures) = odd,
             5 => a.tolerance = odd,
             6 => *d.any(&mut a.events) = d.among(&[100_000, 1_000_001, u32::MAX]),
-            _ => *[&mut a.evaluations, &mut a.iterations].into_iter().nth(d.below(2)).unwrap() = d.among(&[0, 1, 10000, 10001, 1 << 32, (1 << 32) + 1, u64::MAX]),
+            _ => *[&mut a.evaluations, &mut a.iterations].into_iter().nth(d.place(2)).unwrap() = d.among(&[0, 1, 10000, 10001, 1 << 32, (1 << 32) + 1, u64::MAX]),
         }
     }
     // What costs seconds is met at the edges.
@@ -391,21 +374,6 @@ fn asked(d: &mut Draw) -> Asked {
         a.evaluations = a.evaluations.min(1);
     }
     a
-}
-impl Draw {
-    fn any<'a, T>(&mut self, v: &'a mut [T]) -> &'a mut T {
-        let i = self.below(v.len());
-        &mut v[i]
-    }
-}
-
-/// Whole numbers in the order of the f64s, and back.
-fn rank(x: f64) -> i64 {
-    let b = x.to_bits() as i64;
-    if b < 0 { i64::MIN - b } else { b }
-}
-fn of_rank(r: i64) -> f64 {
-    f64::from_bits(if r < 0 { (i64::MIN - r) as u64 } else { r as u64 })
 }
 fn above(x: f64) -> f64 {
     of_rank(rank(x) + 1)
@@ -516,7 +484,8 @@ fn edges(seen: &mut Seen) {
     }
 }
 
-/// Bounds whose logarithms just differ: the high one is moved towards the low one until two neighbours are answered differently.
+/// Bounds whose logarithms just differ: the high one is moved towards the low one until two neighbours are answered
+/// differently.
 fn narrow(d: &mut Draw, seen: &mut Seen) {
     let i = d.among(&[SHAPE, RATE]);
     let low = if i == SHAPE { d.decades(-8., 5.9) } else { d.positive().clamp(5e-324, 1e308) };

@@ -1,36 +1,29 @@
-// Holds our reading of an f64 against Rust's parse::<f64> behind the rules of number.rs: the same texts are taken, and each as the same bits.
-// decimals SEED NUMBER. Each token is read alone and before the end of a line. A difference is printed and ends the run with 1.
+// Holds our reading of an f64 against Rust's parse::<f64> behind the rules of number.rs: the same texts are taken,
+// and each as the same bits.
+// decimals SEED NUMBER. Each token is read alone and before the end of a line. A difference is printed and ends the
+// run with 1.
 use std::collections::BTreeMap;
 mod number;
 use number::number;
 
+mod draw;
+use draw::Draw;
+
 unsafe extern "C" {
-    fn leaf_value(text: *const u8, text_len: usize, out: *mut u64, out_len: usize) -> u64;
+    fn inner_value(text: *const u8, text_len: usize, out: *mut u64, out_len: usize) -> u64;
 }
 
 /// The bits that ours reads, where the whole token is taken.
 fn ours(text: &[u8], token: usize) -> Option<u64> {
     let mut out = [0; 2];
-    match unsafe { leaf_value(text.as_ptr(), text.len(), out.as_mut_ptr(), 2) } {
+    match unsafe { inner_value(text.as_ptr(), text.len(), out.as_mut_ptr(), 2) } {
         0 => (out[1] == token as u64).then_some(out[0]),
         2 => None,
         status => panic!("decimals: status {status}"),
     }
 }
 
-/// Numbers by splitmix64: the same in each run of a seed.
-struct Draw(u64);
 impl Draw {
-    fn next(&mut self) -> u64 {
-        self.0 = self.0.wrapping_add(0x9e37_79b9_7f4a_7c15);
-        let mut z = self.0;
-        z = (z ^ (z >> 30)).wrapping_mul(0xbf58_476d_1ce4_e5b9);
-        z = (z ^ (z >> 27)).wrapping_mul(0x94d0_49bb_1331_11eb);
-        z ^ (z >> 31)
-    }
-    fn below(&mut self, n: u64) -> u64 {
-        self.next() % n
-    }
     fn sign(&mut self) -> &'static str {
         if self.below(2) == 0 { "" } else { "-" }
     }
@@ -64,7 +57,8 @@ fn moved(token: &str, up: bool) -> String {
     String::from_utf8(bytes).unwrap()
 }
 
-/// The middle of two f64s beside each other, cut off where seventeen digits end: exact, or just below it, or with the last digit one more.
+/// The middle of two f64s beside each other, cut off where seventeen digits end: exact, or just below it, or with the
+/// last digit one more.
 fn middle(d: &mut Draw) -> (&'static str, String) {
     // The middle is m / 2^s: m is odd and has 54 binary digits, from 2^53 down to 2^-53 and less.
     let m = 1 << 53 | d.next() >> 11 | 1;

@@ -1,4 +1,5 @@
-# Framed requests and answers for the commands that compare: making them, running a program on them, and cutting a request down to what still shows a difference.
+# Framed requests and answers for the commands that compare: making them, running a program on them, and cutting a
+# request down to what still shows a difference.
 import importlib.machinery
 import importlib.util
 import os

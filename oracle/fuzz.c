@@ -1,4 +1,5 @@
-// One text for the fuzzer: probit_text answers it as the oracle does, departs at the line where the oracle's reader does, and keeps within its buffer.
+// One text for the fuzzer: probit_text answers it as the oracle does, departs at the line where the oracle's reader
+// does, and keeps within its buffer.
 // Cut at random into parts it gets the same answer, the second time too, and a part after that alters nothing.
 #include <stdint.h>
 #include <stdio.h>

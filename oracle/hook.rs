@@ -1,8 +1,10 @@
-// What the hooks in the copy of the module tell: each evaluation with its litter, the reason of a refusal, where a fit stopped, and why: each trial of a line search,
-// with the number that decided it, and the test that ended the fit.
+// What the hooks in the copy of the module tell: each evaluation with its litter, the reason of a refusal, where a
+// fit stopped, and why: each trial of a line search, with the number that decided it, and the test that ended the
+// fit.
 use std::cell::{Cell, RefCell};
 
-/// One evaluation: the litter's position in its objective call, whether the variance is 0, and the bits of z or of the mean.
+/// One evaluation: the litter's position in its objective call, whether the variance is 0, and the bits of z or of
+/// the mean.
 pub struct Evaluation {
     pub litter: u32,
     pub alone: bool,
@@ -29,13 +31,15 @@ pub struct Seen {
     pub trials: Vec<Trial>,
     /// Whether a trial's value was asked for and did not come.
     pub refused: bool,
-    /// 1 norm, 2 evaluations, 3 iterations, all at the loop's head; 4 all halvings made, 5 evaluations spent before; 0 where none ended it.
+    /// 1 norm, 2 evaluations, 3 iterations, all at the loop's head; 4 all halvings made, 5 evaluations spent before;
+    /// 0 where none ended it.
     pub test: u32,
     /// The last litter begun, counted from 1.
     pub litter: u32,
 }
 
-/// 1 not downhill, 2 not moved, 3 too little decrease, 4 by decrease, 5 by rounding, 6 cut off; and the bits of the number that decided, 0 where none.
+/// 1 not downhill, 2 not moved, 3 too little decrease, 4 by decrease, 5 by rounding, 6 cut off; and the bits of the
+/// number that decided, 0 where none.
 #[derive(Clone, Copy, PartialEq, Debug)]
 pub struct Trial {
     pub kind: u32,

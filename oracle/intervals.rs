@@ -1,9 +1,17 @@
-// Holds our log-Wald intervals against population_intervals.rs, unaltered, to the bit. intervals SEED NUMBER, and rows: the intervals alone, for R.
-// The module's ln and exp call the C library's log and exp, and this program's own stand in for them: they are ours. Its root is the processor's.
-// Each test is met just inside and just outside: one number is moved along the f64s until two neighbours are answered differently, and both are held.
+// Holds our log-Wald intervals against population_intervals.rs, unaltered, to the bit. intervals SEED NUMBER, and
+// rows: the intervals alone, for R.
+// The module's ln and exp call the C library's log and exp, and this program's own stand in for them: they are ours.
+// Its root is the processor's.
+// Each test is met just inside and just outside: one number is moved along the f64s until two neighbours are answered
+// differently, and both are held.
 use std::collections::BTreeMap;
 use std::process::exit;
 use std::sync::atomic::{AtomicU64, Ordering};
+
+mod draw;
+use draw::Draw;
+mod rank;
+use rank::{of_rank, rank};
 
 #[path = "../target/oracle/intervals/population_intervals.rs"]
 mod population_intervals;
@@ -13,16 +21,8 @@ pub enum ErrorCode {
     InvalidInput,
     Unsupported,
 }
-#[derive(Clone, Debug)]
-pub struct Error {
-    pub code: ErrorCode,
-    pub message: String,
-}
-impl Error {
-    pub fn new(code: ErrorCode, message: impl Into<String>) -> Self {
-        Error { code, message: message.into() }
-    }
-}
+mod error;
+pub use error::Error;
 
 pub mod fit {
     use crate::population_intervals::PositiveFixedEffectIntervals;
@@ -171,33 +171,13 @@ fn hold(a: &Asked) -> Answer {
     mine
 }
 
-/// Numbers by splitmix64: the same in each run of a seed.
-struct Draw(u64);
-impl Draw {
-    fn next(&mut self) -> u64 {
-        self.0 = self.0.wrapping_add(0x9e37_79b9_7f4a_7c15);
-        let z = (self.0 ^ self.0 >> 30).wrapping_mul(0xbf58_476d_1ce4_e5b9);
-        let z = (z ^ z >> 27).wrapping_mul(0x94d0_49bb_1331_11eb);
-        z ^ z >> 31
-    }
-    fn below(&mut self, n: usize) -> usize {
-        (self.next() % n as u64) as usize
-    }
-    fn unit(&mut self) -> f64 {
-        (self.next() >> 11) as f64 / (1u64 << 53) as f64
-    }
-    fn one_in(&mut self, n: usize) -> bool {
-        self.below(n) == 0
-    }
-}
-
 const ODD: [f64; 14] = [
     0., -0., 5e-324, -5e-324, 2.2250738585072014e-308, 1e-160, 1e-12, 1., -1., 1e160, f64::MAX, f64::INFINITY, f64::NEG_INFINITY, f64::NAN,
 ];
 
 /// A covariance that passes, with estimates of any size; then, now and then, a fault.
 fn asked(d: &mut Draw) -> Asked {
-    let n = 1 + d.below(8);
+    let n = 1 + d.place(8);
     let scale: Vec<f64> = (0..n).map(|_| 10f64.powf(8. * d.unit() - 4.)).collect();
     let b: Vec<f64> = (0..n * n).map(|_| 2. * d.unit() - 1.).collect();
     let ridge = if d.one_in(4) { 1e-12 } else { 0.1 };
@@ -217,31 +197,18 @@ fn asked(d: &mut Draw) -> Asked {
     let marks = 1 + d.next() % ((1 << n) - 1);
     let mut a = Asked { estimates, covariance, errors, marks };
     if d.one_in(3) {
-        let odd = ODD[d.below(ODD.len())];
-        match d.below(4) {
-            0 => *any(&mut a.estimates, d) = odd,
-            1 => *any(&mut a.covariance, d) = odd,
-            2 => *any(&mut a.errors, d) = odd,
-            _ => *any(&mut a.covariance, d) *= 1. + 1e-9 * (d.unit() - 0.5),
+        let odd = ODD[d.place(ODD.len())];
+        match d.place(4) {
+            0 => *d.any(&mut a.estimates) = odd,
+            1 => *d.any(&mut a.covariance) = odd,
+            2 => *d.any(&mut a.errors) = odd,
+            _ => *d.any(&mut a.covariance) *= 1. + 1e-9 * (d.unit() - 0.5),
         }
     }
     a
 }
-fn any<'a>(v: &'a mut [f64], d: &mut Draw) -> &'a mut f64 {
-    let i = d.below(v.len());
-    &mut v[i]
-}
-
-/// Whole numbers in the order of the f64s, and back.
-fn rank(x: f64) -> i64 {
-    let b = x.to_bits() as i64;
-    if b < 0 { i64::MIN - b } else { b }
-}
-fn of_rank(r: i64) -> f64 {
-    f64::from_bits(if r < 0 { (i64::MIN - r) as u64 } else { r as u64 })
-}
-
-/// Moves one number from where the answer has one ending to where it has another, until they are neighbours. Both are held.
+/// Moves one number from where the answer has one ending to where it has another, until they are neighbours. Both are
+/// held.
 fn edge(a: &Asked, put: &dyn Fn(&mut Asked, f64), from: f64, to: f64) -> Option<(u64, u64)> {
     let at = |r: i64| {
         let mut b = a.clone();
@@ -274,8 +241,8 @@ fn plain(d: &mut Draw, n: usize) -> Asked {
 }
 
 fn edges(d: &mut Draw, met: &mut BTreeMap<&'static str, u64>) {
-    let n = 1 + d.below(8);
-    let i = d.below(n);
+    let n = 1 + d.place(8);
+    let i = d.place(n);
     let a = plain(d, n);
     let mut see = |name: &'static str, found: Option<(u64, u64)>, between: (u64, u64)| {
         if found != Some(between) {
@@ -308,7 +275,7 @@ fn edges(d: &mut Draw, met: &mut BTreeMap<&'static str, u64>) {
     see("an estimate that is not finite", edge(&a, &estimate, f64::MAX, f64::INFINITY), (8, 1));
     see("an interval that does not increase", edge(&a, &estimate, x, 1e30), (0, 8));
     if n > 1 {
-        let j = (i + 1 + d.below(n - 1)) % n;
+        let j = (i + 1 + d.place(n - 1)) % n;
         let at = a.covariance[n * i + j];
         let cell = move |b: &mut Asked, t: f64| b.covariance[n * i + j] = t;
         see("asymmetry by the relative tolerance, above", edge(&a, &cell, at, 2. * at), (0, 1));
@@ -335,9 +302,9 @@ fn edges(d: &mut Draw, met: &mut BTreeMap<&'static str, u64>) {
 
 /// Shapes that are refused with nothing written.
 fn shapes(d: &mut Draw) {
-    let n = 1 + d.below(8);
+    let n = 1 + d.place(8);
     let a = plain(d, n);
-    let mut asks = vec![Asked { marks: 0, ..a.clone() }, Asked { marks: a.marks | 1 << (n + d.below(64 - n)), ..a.clone() }];
+    let mut asks = vec![Asked { marks: 0, ..a.clone() }, Asked { marks: a.marks | 1 << (n + d.place(64 - n)), ..a.clone() }];
     for wrong in 0..3 {
         let mut b = a.clone();
         let v = [&mut b.estimates, &mut b.covariance, &mut b.errors];

@@ -1,5 +1,7 @@
-// Tries the work limit of each framed request on standard input, ours through the text entry and the oracle's by its list. limits SEED
-// With n evaluations of its own, a limit L of n or more changes nothing, and a smaller one is `refused 3 L 0` after the first L evaluations of the same list.
+// Tries the work limit of each framed request on standard input, ours through the text entry and the oracle's by its
+// list. limits SEED
+// With n evaluations of its own, a limit L of n or more changes nothing, and a smaller one is `refused 3 L 0` after
+// the first L evaluations of the same list.
 // Every L up to n + 2 where n is at most 3000, else some. Exit status: 1 a difference, 2 bad usage.
 use answers::{Evaluation, Seen};
 use std::io::Read;

@@ -1,4 +1,5 @@
-// An f64 in a request, by the rules of documents 01 and 02 §1: sixteen lower-case hexadecimal digits of its bits, or a decimal, which Rust's own parse reads.
+// An f64 in a request, by the rules of documents 01 and 02 §1: sixteen lower-case hexadecimal digits of its bits, or
+// a decimal, which Rust's own parse reads.
 
 pub fn number(word: &[u8]) -> Option<f64> {
     if word.contains(&b'.') { decimal(word) } else { hexadecimal(word) }

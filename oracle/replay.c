@@ -1,6 +1,9 @@
-// Runs framed requests through probit_text. Standard input holds records: a line `request N` and N bytes, then, in a stored list, a line `answer M` and M bytes.
-// Where an answer stands it is compared; where none stands ours is printed, framed. Exit status: 0 all alike, 1 one differs, 2 the input is no list or bad usage.
-// replay derivatives: after each fit its gradient and its Hessian, as probit_fit gives them; what the text has too has to be the same there.
+// Runs framed requests through probit_text. Standard input holds records: a line `request N` and N bytes, then, in a
+// stored list, a line `answer M` and M bytes.
+// Where an answer stands it is compared; where none stands ours is printed, framed. Exit status: 0 all alike, 1 one
+// differs, 2 the input is no list or bad usage.
+// replay derivatives: after each fit its gradient and its Hessian, as probit_fit gives them; what the text has too
+// has to be the same there.
 #include <inttypes.h>
 #include <stdint.h>
 #include <stdio.h>
@@ -34,7 +37,8 @@ static uint64_t bits(double x) {
     return x == x ? n : 0x7ff8000000000000;
 }
 
-// Adds the line with the derivatives to an answer of n bytes, and gives the new length; 0 where the record is not what the text says.
+// Adds the line with the derivatives to an answer of n bytes, and gives the new length; 0 where the record is not
+// what the text says.
 static size_t derivatives(const uint8_t *text, size_t length, char *out, size_t n) {
     static uint8_t held[PROBIT_HELD];
     uint64_t state[PROBIT_PART_COUNTS] = {0}, asked[PROBIT_REQUEST_NUMBERS], counts[PROBIT_FIT_COUNTS], end;

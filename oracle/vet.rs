@@ -1,11 +1,17 @@
-// Holds probit_vet against a checker written over the module's objective, to the bit: claims of each framed request on standard input. vet SEED NUMBER
-// The checker takes from the module its request's checks, its objective with count and reason, its projection and its norm; the order of the refusals is written here.
-// Claimed are our own fits, which have to be accepted with their own norm if they converged, and near misses of them. Every verdict has to be met.
+// Holds probit_vet against a checker written over the module's objective, to the bit: claims of each framed request
+// on standard input. vet SEED NUMBER
+// The checker takes from the module its request's checks, its objective with count and reason, its projection and its
+// norm; the order of the refusals is written here.
+// Claimed are our own fits, which have to be accepted with their own norm if they converged, and near misses of them.
+// Every verdict has to be met.
 // Exit status: 1 a difference or a verdict that was not met, 2 bad usage.
 use qspquest_core::probit_fit::ProbitNormalBinomialFitRequest as Request;
 use qspquest_core::ErrorCode;
 use std::collections::BTreeMap;
 use std::io::Read;
+
+mod draw;
+use draw::Draw;
 
 unsafe extern "C" {
     fn probit_vet(
@@ -54,7 +60,8 @@ fn wrong(r: &Request, claim: &[f64; 5], what: &str) -> ! {
 
 // The judge.
 
-/// By the module's own checks. A limit that passes them is put at 1, so that the fit, which is not asked for, ends at once.
+/// By the module's own checks. A limit that passes them is put at 1, so that the fit, which is not asked for, ends at
+/// once.
 fn admitted(r: &Request) -> bool {
     let mut q = r.clone();
     if (1..=LIMIT).contains(&q.max_quadrature_evaluations) {
@@ -155,26 +162,6 @@ fn likelihood(r: &Request, x: [f64; 4]) -> f64 {
 
 // The claims.
 
-/// Numbers by splitmix64: the same in each run of a seed.
-struct Draw(u64);
-impl Draw {
-    fn next(&mut self) -> u64 {
-        self.0 = self.0.wrapping_add(0x9e37_79b9_7f4a_7c15);
-        let z = (self.0 ^ self.0 >> 30).wrapping_mul(0xbf58_476d_1ce4_e5b9);
-        let z = (z ^ z >> 27).wrapping_mul(0x94d0_49bb_1331_11eb);
-        z ^ z >> 31
-    }
-    fn below(&mut self, n: usize) -> usize {
-        (self.next() % n as u64) as usize
-    }
-    fn unit(&mut self) -> f64 {
-        (self.next() >> 11) as f64 / (1u64 << 53) as f64
-    }
-    fn one_in(&mut self, n: usize) -> bool {
-        self.below(n) == 0
-    }
-}
-
 /// The next f64 up or down.
 fn beside(x: f64, up: bool) -> f64 {
     let b = x.to_bits();
@@ -189,7 +176,7 @@ const NANS: [u64; 4] = [0x7ff8_0000_0000_0000, 0xfff8_0000_0000_0000, 0x7ff0_000
 
 fn drawn(d: &mut Draw, r: &Request, on_bounds: bool) -> [f64; 4] {
     let (lo, hi) = (ends(r, 0), ends(r, 1));
-    std::array::from_fn(|i| match d.below(if on_bounds { 3 } else { 1 }) {
+    std::array::from_fn(|i| match d.place(if on_bounds { 3 } else { 1 }) {
         1 => lo[i],
         2 => hi[i],
         _ => (lo[i] + d.unit() * (hi[i] - lo[i])).max(lo[i]).min(hi[i]),
@@ -203,19 +190,19 @@ fn with(x: [f64; 4], nll: f64) -> [f64; 5] {
 fn claim(d: &mut Draw, r: &mut Request, p: [f64; 5]) -> ([f64; 5], &'static str) {
     let x = [p[0], p[1], p[2], p[3]];
     let (lo, hi) = (ends(r, 0), ends(r, 1));
-    let i = d.below(4);
+    let i = d.place(4);
     let mut y = x;
-    match d.below(12) {
+    match d.place(12) {
         0 => (with(x, beside(p[4], d.one_in(2))), "the likelihood's last bit"),
-        1 => (with(x, [-p[4], 0., -0., f64::INFINITY, p[4] + 1e-9][d.below(5)]), "another likelihood"),
-        2 => (with(x, f64::from_bits(NANS[d.below(4)])), "a likelihood that is a NaN"),
+        1 => (with(x, [-p[4], 0., -0., f64::INFINITY, p[4] + 1e-9][d.place(5)]), "another likelihood"),
+        2 => (with(x, f64::from_bits(NANS[d.place(4)])), "a likelihood that is a NaN"),
         3 | 4 => {
             let up = d.one_in(2);
             y[i] = if up { beside(hi[i], true) } else { beside(lo[i], false) };
             (with(y, p[4]), "a coordinate one ulp outside its box")
         }
         5 => {
-            y[i] = f64::from_bits(NANS[d.below(4)]);
+            y[i] = f64::from_bits(NANS[d.place(4)]);
             (with(y, p[4]), "a coordinate that is a NaN")
         }
         6 => {
@@ -223,7 +210,7 @@ fn claim(d: &mut Draw, r: &mut Request, p: [f64; 5]) -> ([f64; 5], &'static str)
                 if y[k] == 0. {
                     y[k] = -y[k];
                 } else if lo[k] <= 0. && 0. <= hi[k] && d.one_in(2) {
-                    y[k] = [0., -0.][d.below(2)];
+                    y[k] = [0., -0.][d.place(2)];
                 }
             }
             (with(y, likelihood(r, y.map(|v| v + 0.))), "zeros of either sign")
@@ -296,12 +283,12 @@ fn main() {
             let (c, kind) = claim(&mut d, &mut r, p);
             if d.one_in(2) {
                 // Limits play no part past their check.
-                r.max_evaluations = 1 + d.below(1000);
-                r.max_iterations = 1 + d.below(1000);
+                r.max_evaluations = 1 + d.place(1000);
+                r.max_iterations = 1 + d.place(1000);
                 let most = if d.one_in(2) { 10 } else { LIMIT };
-                r.max_quadrature_evaluations = 1 + d.below(most);
+                r.max_quadrature_evaluations = 1 + d.place(most);
             } else if d.one_in(12) {
-                *[&mut r.max_evaluations, &mut r.max_iterations, &mut r.max_quadrature_evaluations][d.below(3)] = [0, LIMIT + 1][d.below(2)];
+                *[&mut r.max_evaluations, &mut r.max_iterations, &mut r.max_quadrature_evaluations][d.place(3)] = [0, LIMIT + 1][d.place(2)];
             }
             hold(&r, &c, kind);
         }

@@ -1,5 +1,7 @@
-// Asks for every trial of each framed request on standard input, and one number past the last, and for its ending: ours through probit_why, the module's by the hooks.
-// Beside each the fit is that of probit_fit, byte for byte. A slope that is a zero may have the other sign in the module, whose sums start at minus zero: counted, not a difference.
+// Asks for every trial of each framed request on standard input, and one number past the last, and for its ending:
+// ours through probit_why, the module's by the hooks.
+// Beside each the fit is that of probit_fit, byte for byte. A slope that is a zero may have the other sign in the
+// module, whose sums start at minus zero: counted, not a difference.
 // Exit status: 1 a difference, 2 bad usage.
 use std::collections::BTreeMap;
 use std::io::Read;

@@ -1,6 +1,7 @@
 #!/usr/bin/env python3
-# Prints the lines of crates/exponential/specs/Steps.antt that have numerals, for the steps of exp within 3/8 of zero and those of its reduced argument: for each step
-# the exponent of its own error, its whole error and its size, the last two in 2^-64 and rounded up.
+# Prints the lines of crates/exponential/specs/Steps.antt that have numerals, for the steps of exp within 3/8 of zero
+# and those of its reduced argument: for each step the exponent of its own error, its whole error and its size, the
+# last two in 2^-64 and rounded up.
 # Usage: numerals.py [--check]      (--check: compares with that file and prints nothing else)
 # Status: 0 printed, or the same; 1 they differ; 2 bad usage.
 import fractions

@@ -1,5 +1,6 @@
 #!/usr/bin/env python3
-# Writes the files of crates/tables that have a line for each row, from tools/coefficients.txt: src/ (decimals), specs/ (bits) and proofs/.
+# Writes the files of crates/tables that have a line for each row, from tools/coefficients.txt: src/ (decimals),
+# specs/ (bits) and proofs/.
 # Run it after a change of the coefficients; then `rt fmt --check` and `rt check tables`.
 import pathlib
 import struct
@@ -73,7 +74,7 @@ def source(t, rows):
     yield "// The table of `%s`. %s" % (t.module, t.says)
     yield "// Written by tools/tables.py."
     yield "ghost use mathlib.Core.Path.{_≡_};"
-    yield "ghost use Rattle.tables.specs.%s.{%sRow};" % (t.title, t.module)
+    yield "ghost use Rattle.tables.specs.%s.{%sRowOf};" % (t.title, t.module)
     yield ""
     yield "pub struct %s {" % t.kind
     yield from ("    pub %s: f64," % f for f in t.fields)
@@ -94,7 +95,7 @@ def source(t, rows):
 
 def function(t, rows, name):
     yield "pub fn %s(%s: u64) -> %s" % (name, t.index, t.kind)
-    yield "    ensures { λ r. ⌜ r ≡ %sRow %s ⌝ }" % (t.module, t.index)
+    yield "    ensures { λ r. ⌜ r ≡ %sRowOf %s ⌝ }" % (t.module, t.index)
     yield "{"
     yield "    match %s {" % t.index
     yield from ("        %d => ROW%d," % (k, k) for k in range(len(rows)))
@@ -121,8 +122,8 @@ def spec(t, rows):
     yield "abbrev pub noRow : %s" % t.kind
     yield "noRow = %s" % record(["zero·"] * len(t.fields))
     yield ""
-    yield "unfoldable pub %sRow : ℕ → %s" % (t.module, t.kind)
-    yield "%sRow %s = getD %sRows %s noRow" % (t.module, t.index, t.module, t.index)
+    yield "unfoldable pub %sRowOf : ℕ → %s" % (t.module, t.kind)
+    yield "%sRowOf %s = getD %sRows %s noRow" % (t.module, t.index, t.module, t.index)
 
 
 def proof(t, rows, name):
@@ -131,13 +132,13 @@ def proof(t, rows, name):
     yield "-- `tables::%s` meets its contract: each arm by its key, the last by `past`." % name
     yield "-- Written by tools/tables.py."
     yield "use mathlib.Core.Path.{refl}"
-    yield "use Rattle.tables.specs.%s.{%sRow, %sRows}" % (t.title, t.module, t.module)
+    yield "use Rattle.tables.specs.%s.{%sRowOf, %sRows}" % (t.title, t.module, t.module)
     yield "use Rattle.tables.proofs.Rows.{at, past}"
     yield "use %s.Statement.{statement}" % at
     yield "use %s.Tie as tie" % at
     yield ""
     yield "pub %s : {M : Type 1} → statement M" % spec
-    yield "unfolding %sRow %sRows" % (t.module, t.module)
+    yield "unfolding %sRowOf %sRows" % (t.module, t.module)
     yield "%s =" % spec
     yield "    tie.close"
     yield "    (tie.spec"

@@ -9,13 +9,15 @@ import subprocess
 import sys
 
 ENDINGS = {0: "answered", 1: "invalid input", 2: "domain", 3: "work budget", 4: "form", 8: "unsupported"}
+# As include/probit_names.h has them; docs/RULES.md says what each is.
 REASONS = {
     0: "none",
-    1: "the mode of a litter's integrand was not bracketed",
-    2: "the mode of a litter's integrand was not found",
-    3: "a tail of a litter's integrand was not bounded",
-    4: "an integral or a derivative is not finite, or the total is not positive",
-    5: "a litter's integral did not settle",
+    1: "mode not bracketed",
+    2: "mode not converged",
+    3: "tail not bounded",
+    4: "not finite",
+    5: "refinement not converged",
+    6: "total not finite",
 }
 STATUSES = {0: "none", 1: "converged", 2: "evaluation-limit", 3: "iteration-limit", 4: "line-search-failed"}
 # The first interface that this program can call: 1000 times the first number, and the second.

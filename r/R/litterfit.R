@@ -1,8 +1,8 @@
 # A fit of two groups of litters by the proved engine, and what R's users ask of a fit.
 
 STATUSES <- c("converged", "evaluation limit", "iteration limit", "line search failed")
-REASONS <- c("the mode of a litter's integrand was not bracketed", "the mode of a litter's integrand was not found",
-             "a tail of a litter's integrand was not bounded", "an integral or a derivative is not finite", "a litter's integral did not settle")
+# As include/probit_names.h has them.
+REASONS <- c("mode not bracketed", "mode not converged", "tail not bounded", "not finite", "refinement not converged", "total not finite")
 
 # Whole numbers within [low, high], or an error that names the first that is not.
 whole <- function(x, what, low, high) {

@@ -1,8 +1,9 @@
 -- The counts of both groups in an archive: what a litter adds, what running totals say, and what is counted over the first litters.
 use mathlib.Core.List.{List, [], _∷_}
-use Prim.Native.Nat.{ℕ, zero, suc, _+_, _*_, _≤_}
+use Prim.Native.Nat.{ℕ, zero, suc, _+_, _*_}
 use Rattle.summary.specs.declared.GroupCounts.{GroupCounts}
 use Rattle.summary.specs.Summary.{noCounts, plusOf, litterCountsOf}
+use Rattle.summary.specs.Most.{Most}
 use Rattle.archive.specs.declared.counts.Counts.{Counts}
 use Rattle.archive.specs.Layout.{wordAt, groupIn, successesIn, totalIn}
 
@@ -19,15 +20,15 @@ oneOf successes total group = record { first = litterCountsOf 0 successes total 
 abbrev pub litterIn : List ℕ → ℕ → Counts
 litterIn b i = oneOf (successesIn b i) (totalIn b i) (groupIn b i)
 
-abbrev pub groupTotals : List ℕ → ℕ → GroupCounts
-groupTotals b p = record { litters = wordAt b p; successes = wordAt b (p + 4); trials = wordAt b (p + 8); extreme = wordAt b (p + 12) }
+abbrev pub groupTotalsOf : List ℕ → ℕ → GroupCounts
+groupTotalsOf b p = record { litters = wordAt b p; successes = wordAt b (p + 4); trials = wordAt b (p + 8); extreme = wordAt b (p + 12) }
 
-abbrev pub bothTotals : List ℕ → ℕ → Counts
-bothTotals b p = record { first = groupTotals b p; second = groupTotals b (p + 16) }
+abbrev pub totalsOf : List ℕ → ℕ → Counts
+totalsOf b p = record { first = groupTotalsOf b p; second = groupTotalsOf b (p + 16) }
 
 -- the j-th running totals, from 0, of an archive of n litters
 unfoldable pub totalsIn : List ℕ → ℕ → ℕ → Counts
-totalsIn b n j = bothTotals b (12 * n + 32 * j)
+totalsIn b n j = totalsOf b (12 * n + 32 * j)
 
 -- the first i litters counted
 unfoldable pub countsTo : List ℕ → ℕ → Counts
@@ -39,25 +40,16 @@ unfoldable pub numbersFrom : List ℕ → ℕ → ℕ → List ℕ
 numbersFrom b zero i = []
 numbersFrom b (suc k) i = successesIn b i ∷ totalIn b i ∷ groupIn b i ∷ numbersFrom b k (suc i)
 
--- ---- how large a count can be
-
-pub record Most (c : GroupCounts) (m : ℕ) : Type 0 where
-  pub litters : c .litters ≤ m
-  pub successes : c .successes ≤ m
-  pub trials : c .trials ≤ m
-  pub extreme : c .extreme ≤ m
+-- ---- how large they can be
 
 pub record BothMost (c : Counts) (m : ℕ) : Type 0 where
   pub first : Most (c .first) m
   pub second : Most (c .second) m
 
 -- at most k numbers of 32 bits together
-abbrev pub Below : GroupCounts → ℕ → Type 0
-Below c k = Most c (0xffff_ffff * k)
-
 abbrev pub BothBelow : Counts → ℕ → Type 0
 BothBelow c k = BothMost c (0xffff_ffff * k)
 
 -- so large a count still has room for one litter more
-abbrev pub room : ℕ
-room = 8192
+abbrev pub capacity : ℕ
+capacity = 8192

@@ -5,7 +5,7 @@ use mathlib.Core.List.{List}
 use Prim.Native.Nat.{ℕ, _+_, _-_, _*_, _/_}
 use lib.Dec.{leb, eqb}
 use lib.ListN.{length, getD}
-use Rattle.objective.specs.Litters.{validLitter}
+use Rattle.litters.specs.Valid.{validLitterOf}
 use Rattle.archive.specs.declared.Outcome.{Outcome}
 use Rattle.archive.specs.declared.Outcome.the-variants.{Answered, InvalidInput, Form}
 
@@ -35,8 +35,8 @@ successesIn b i = wordAt b (12 * i + 4)
 abbrev pub totalIn : List ℕ → ℕ → ℕ
 totalIn b i = wordAt b (12 * i + 8)
 
-abbrev pub validIn : List ℕ → ℕ → Bool
-validIn b i = validLitter (successesIn b i) (totalIn b i) (groupIn b i)
+abbrev pub validOf : List ℕ → ℕ → Bool
+validOf b i = validLitterOf (successesIn b i) (totalIn b i) (groupIn b i)
 
 -- ---- the whole
 
@@ -55,8 +55,8 @@ abbrev pub litterByteIn : List ℕ → ℕ
 litterByteIn b = wordAt b (length b - 4)
 
 -- what the trailer says is so: at most 4,096 litters, the length that they have, and both bytes
-abbrev pub trailerHolds : List ℕ → Bool
-trailerHolds b = leb (countIn b) 4096 && (eqb (length b) (sizeOf (countIn b)) && (eqb (totalsByteIn b) (12 * countIn b) && eqb (litterByteIn b) 0))
+abbrev pub trailerHoldsOf : List ℕ → Bool
+trailerHoldsOf b = leb (countIn b) 4096 && (eqb (length b) (sizeOf (countIn b)) && (eqb (totalsByteIn b) (12 * countIn b) && eqb (litterByteIn b) 0))
 
-unfoldable pub shapeOf : List ℕ → Bool
-shapeOf b = leb 12 (length b) && trailerHolds b
+unfoldable pub shapedOf : List ℕ → Bool
+shapedOf b = leb 12 (length b) && trailerHoldsOf b

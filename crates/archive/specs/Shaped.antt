@@ -7,7 +7,7 @@ use native.Mathlib.Omega.{arith}
 use borrow.Author.Tests.{leb-true, le-leb, eqb-true, eq-eqb}
 use lib.Dec.{leb, eqb}
 use lib.ListN.{length}
-use Rattle.archive.specs.Layout.{sizeOf, countIn, totalsByteIn, litterByteIn, trailerHolds, shapeOf}
+use Rattle.archive.specs.Layout.{sizeOf, countIn, totalsByteIn, litterByteIn, trailerHoldsOf, shapedOf}
 
 pub record Shaped (b : List ℕ) : Type 0 where
   pub few : countIn b ≤ 4096
@@ -27,10 +27,10 @@ pub and-both : (a b : Bool) → a ≡ true → b ≡ true → (a && b) ≡ true
 and-both a b e f = rw (e, f)
 
 module _ (b : List ℕ) where
-  pub shape-holds : shapeOf b ≡ true → Shaped b
-  unfolding shapeOf sizeOf
+  pub shape-holds : shapedOf b ≡ true → Shaped b
+  unfolding shapedOf sizeOf
   shape-holds h =
-      let one = and-right (leb 12 (length b)) (trailerHolds b) h in
+      let one = and-right (leb 12 (length b)) (trailerHoldsOf b) h in
       let bytes = eqb (totalsByteIn b) (12 * countIn b) && eqb (litterByteIn b) 0 in
       let long = eqb (length b) (12 * countIn b + 32 * (countIn b / 64) + 12) in
       let two = and-right (leb (countIn b) 4096) (long && bytes) one in
@@ -42,7 +42,7 @@ module _ (b : List ℕ) where
         litters = eqb-true (litterByteIn b) 0 (and-right (eqb (totalsByteIn b) (12 * countIn b)) (eqb (litterByteIn b) 0) three);
       }
 
-  pub shape-is : Shaped b → shapeOf b ≡ true
-  unfolding shapeOf sizeOf
+  pub shape-is : Shaped b → shapedOf b ≡ true
+  unfolding shapedOf sizeOf
   shape-is s =
       rw (le-leb 12 (length b) (omega (arith, s .long)), le-leb (countIn b) 4096 (s .few), eq-eqb (length b) (12 * countIn b + 32 * (countIn b / 64) + 12) (s .long), eq-eqb (totalsByteIn b) (12 * countIn b) (s .totals), eq-eqb (litterByteIn b) 0 (s .litters))

@@ -4,7 +4,8 @@ ghost use mathlib.Core.Path.{_≡_};
 ghost use Prim.Native.Nat.{ℕ, _+_, _*_, _≤_};
 ghost use lib.ListN.{length};
 ghost use Rattle.summary.specs.Summary.{plusOf, litterCountsOf};
-ghost use Rattle.archive.specs.Counts.{none as noneOf, bothOf, oneOf, litterIn, groupTotals, bothTotals, Below, BothBelow, room};
+ghost use Rattle.summary.specs.Most.{Below};
+ghost use Rattle.archive.specs.Counts.{none as noneOf, bothOf, oneOf, litterIn, groupTotalsOf, totalsOf, BothBelow, capacity};
 
 pub struct Counts {
     pub first: GroupCounts,
@@ -22,7 +23,7 @@ pub fn none() -> Counts
 }
 
 fn grown(c: GroupCounts, asked: u32, successes: u32, total: u32, group: u32) -> GroupCounts
-    requires { ⌜ Below c room ⌝ }
+    requires { ⌜ Below c capacity ⌝ }
     ensures { λ r. ⌜ (r ≡ plusOf c (litterCountsOf asked successes total group)) × ((k : ℕ) → Below c k → Below r (k + 1)) ⌝ }
 {
     let one = summary::litter_counts(asked, successes, total, group);
@@ -30,7 +31,7 @@ fn grown(c: GroupCounts, asked: u32, successes: u32, total: u32, group: u32) -> 
 }
 
 pub fn with_litter(c: Counts, successes: u32, total: u32, group: u32) -> Counts
-    requires { ⌜ BothBelow c room ⌝ }
+    requires { ⌜ BothBelow c capacity ⌝ }
     ensures { λ r. ⌜ (r ≡ bothOf c (oneOf successes total group)) × ((k : ℕ) → BothBelow c k → BothBelow r (k + 1)) ⌝ }
 {
     let first = grown(c.first, 0, successes, total, group);
@@ -40,7 +41,7 @@ pub fn with_litter(c: Counts, successes: u32, total: u32, group: u32) -> Counts
 
 // The counts with litter i of an archive.
 pub fn after(c: Counts, b: &[u8], i: usize) -> Counts
-    requires { ⌜ BothBelow c room × (12 * i + 12 ≤ length (now b)) ⌝ }
+    requires { ⌜ BothBelow c capacity × (12 * i + 12 ≤ length (now b)) ⌝ }
     ensures { λ r. ⌜ (r ≡ bothOf c (litterIn (now (b .entry)) i)) × ((k : ℕ) → BothBelow c k → BothBelow r (k + 1)) ⌝ }
 {
     let p = 12 * i;
@@ -52,7 +53,7 @@ pub fn after(c: Counts, b: &[u8], i: usize) -> Counts
 
 fn group_totals(b: &[u8], p: usize) -> GroupCounts
     requires { ⌜ p + 16 ≤ length (now b) ⌝ }
-    ensures { λ r. ⌜ (r ≡ groupTotals (now (b .entry)) p) × Below r 1 ⌝ }
+    ensures { λ r. ⌜ (r ≡ groupTotalsOf (now (b .entry)) p) × Below r 1 ⌝ }
 {
     GroupCounts {
         litters: crate::word(b, p) as u64,
@@ -64,7 +65,7 @@ fn group_totals(b: &[u8], p: usize) -> GroupCounts
 
 pub fn totals(b: &[u8], p: usize) -> Counts
     requires { ⌜ p + 32 ≤ length (now b) ⌝ }
-    ensures { λ r. ⌜ (r ≡ bothTotals (now (b .entry)) p) × BothBelow r 1 ⌝ }
+    ensures { λ r. ⌜ (r ≡ totalsOf (now (b .entry)) p) × BothBelow r 1 ⌝ }
 {
     let first = group_totals(b, p);
     let second = group_totals(b, p + 16);

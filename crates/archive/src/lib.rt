@@ -4,7 +4,7 @@ pub mod counts;
 ghost use mathlib.Core.Path.{_≡_};
 ghost use Prim.Native.Nat.{_+_, _-_, _*_, _≤_, _<_};
 ghost use lib.ListN.{length};
-ghost use Rattle.archive.specs.Layout.{numberOf, lineOf, wordAt, validIn, sizeOf, trailerHolds, shapeOf};
+ghost use Rattle.archive.specs.Layout.{numberOf, lineOf, wordAt, validOf, sizeOf, trailerHoldsOf, shapedOf};
 
 // How an answer about an archive ends. Form carries its line, which is 0 for an archive.
 pub enum Outcome {
@@ -38,11 +38,10 @@ pub fn word(b: &[u8], p: usize) -> u32
 
 pub fn valid(b: &[u8], i: usize) -> bool
     requires { ⌜ 12 * i + 12 ≤ length (now b) ⌝ }
-    ensures { λ r. ⌜ r ≡ validIn (now (b .entry)) i ⌝ }
+    ensures { λ r. ⌜ r ≡ validOf (now (b .entry)) i ⌝ }
 {
     let p = 12 * i;
-    let litter = [word(b, p + 4), word(b, p + 8), word(b, p)];
-    objective::check::valid_litters(&litter)
+    litters::valid::valid_litter(word(b, p + 4), word(b, p + 8), word(b, p))
 }
 
 pub fn size(n: usize) -> usize
@@ -61,7 +60,7 @@ pub fn count(b: &[u8]) -> usize
 
 fn trailer_holds(b: &[u8]) -> bool
     requires { ⌜ 12 ≤ length (now b) ⌝ }
-    ensures { λ r. ⌜ r ≡ trailerHolds (now (b .entry)) ⌝ }
+    ensures { λ r. ⌜ r ≡ trailerHoldsOf (now (b .entry)) ⌝ }
 {
     let n = count(b);
     if 4096 < n {
@@ -76,7 +75,7 @@ fn trailer_holds(b: &[u8]) -> bool
 
 // Fewer than 12 bytes have no trailer.
 pub fn shaped(b: &[u8]) -> bool
-    ensures { λ r. ⌜ r ≡ shapeOf (now (b .entry)) ⌝ }
+    ensures { λ r. ⌜ r ≡ shapedOf (now (b .entry)) ⌝ }
 {
     if b.len() < 12 {
         return false;

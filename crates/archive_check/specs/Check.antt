@@ -5,21 +5,21 @@ use Prim.Native.Nat.{ℕ, zero, suc, _-_, _/_, _%_}
 use lib.Dec.{eqb}
 use Rattle.summary.specs.declared.GroupCounts.{GroupCounts}
 use Rattle.archive.specs.declared.counts.Counts.{Counts}
-use Rattle.archive.specs.Layout.{validIn, countIn, shapeOf}
+use Rattle.archive.specs.Layout.{validOf, countIn, shapedOf}
 use Rattle.archive.specs.Counts.{totalsIn, countsTo}
 
-unfoldable pub sameGroup : GroupCounts → GroupCounts → Bool
-sameGroup a b = (eqb (a .litters) (b .litters) && eqb (a .successes) (b .successes)) && (eqb (a .trials) (b .trials) && eqb (a .extreme) (b .extreme))
+unfoldable pub sameGroupOf : GroupCounts → GroupCounts → Bool
+sameGroupOf a b = (eqb (a .litters) (b .litters) && eqb (a .successes) (b .successes)) && (eqb (a .trials) (b .trials) && eqb (a .extreme) (b .extreme))
 
 unfoldable pub sameOf : Counts → Counts → Bool
-sameOf a b = sameGroup (a .first) (b .first) && sameGroup (a .second) (b .second)
+sameOf a b = sameGroupOf (a .first) (b .first) && sameGroupOf (a .second) (b .second)
 
 -- the totals after the first i litters, where there are any, are c
-unfoldable pub totalsHold : List ℕ → ℕ → Counts → Bool
-totalsHold b i c = cond (eqb (i % 64) 0) (sameOf c (totalsIn b (countIn b) (i / 64 - 1))) true
+unfoldable pub totalsHoldOf : List ℕ → ℕ → Counts → Bool
+totalsHoldOf b i c = cond (eqb (i % 64) 0) (sameOf c (totalsIn b (countIn b) (i / 64 - 1))) true
 
 unfoldable pub holdsAt : List ℕ → ℕ → Bool
-holdsAt b i = validIn b i && totalsHold b (suc i) (countsTo b (suc i))
+holdsAt b i = validOf b i && totalsHoldOf b (suc i) (countsTo b (suc i))
 
 -- k litters from the i-th on
 unfoldable pub holdsFrom : List ℕ → ℕ → ℕ → Bool
@@ -27,4 +27,4 @@ holdsFrom b zero i = true
 holdsFrom b (suc k) i = holdsAt b i && holdsFrom b k (suc i)
 
 unfoldable pub checkOf : List ℕ → Bool
-checkOf b = shapeOf b && holdsFrom b (countIn b) 0
+checkOf b = shapedOf b && holdsFrom b (countIn b) 0

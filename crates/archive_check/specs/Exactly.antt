@@ -9,16 +9,16 @@ use borrow.Table.Steps.{cases}
 use lib.Dec.{eqb, ltb}
 use Rattle.summary.specs.declared.GroupCounts.{GroupCounts}
 use Rattle.archive.specs.declared.counts.Counts.{Counts}
-use Rattle.archive.specs.Layout.{validIn, countIn, shapeOf}
+use Rattle.archive.specs.Layout.{validOf, countIn, shapedOf}
 use Rattle.archive.specs.Shaped.{Shaped, shape-holds, shape-is, and-left, and-right, and-both}
 use Rattle.archive.specs.Counts.{totalsIn, countsTo}
 use Rattle.archive.specs.Right.{Right}
-use Rattle.archive_check.specs.Check.{sameGroup, sameOf, totalsHold, holdsAt, holdsFrom, checkOf}
+use Rattle.archive_check.specs.Check.{sameGroupOf, sameOf, totalsHoldOf, holdsAt, holdsFrom, checkOf}
 
 -- ---- counts that are the same by their eight numbers
 
-group-same : (a b : GroupCounts) → sameGroup a b ≡ true → a ≡ b
-unfolding sameGroup
+group-same : (a b : GroupCounts) → sameGroupOf a b ≡ true → a ≡ b
+unfolding sameGroupOf
 group-same a b h =
     let x = eqb (a .litters) (b .litters) in
     let y = eqb (a .successes) (b .successes) in
@@ -35,14 +35,14 @@ group-same a b h =
 same : (a b : Counts) → sameOf a b ≡ true → a ≡ b
 unfolding sameOf
 same a b h =
-    let x = sameGroup (a .first) (b .first) in
-    let y = sameGroup (a .second) (b .second) in
+    let x = sameGroupOf (a .first) (b .first) in
+    let y = sameGroupOf (a .second) (b .second) in
     let p = group-same (a .first) (b .first) (and-left x y h) in
     let q = group-same (a .second) (b .second) (and-right x y h) in
     λ j. record { first = p j; second = q j }
 
-group-self : (a : GroupCounts) → sameGroup a a ≡ true
-unfolding sameGroup
+group-self : (a : GroupCounts) → sameGroupOf a a ≡ true
+unfolding sameGroupOf
 group-self a = rw (eq-eqb (a .litters) (a .litters) refl, eq-eqb (a .successes) (a .successes) refl, eq-eqb (a .trials) (a .trials) refl, eq-eqb (a .extreme) (a .extreme) refl)
 
 self : (a : Counts) → sameOf a a ≡ true
@@ -67,16 +67,16 @@ all b (suc k) i f = and-both (holdsAt b i) (holdsFrom b k (suc i)) (f i (omega a
 
 -- ---- totals
 
-total-right : (b : List ℕ) (i j : ℕ) (c : Counts) → i ≡ 64 * (j + 1) → totalsHold b i c ≡ true → totalsIn b (countIn b) j ≡ c
-unfolding totalsHold
+total-right : (b : List ℕ) (i j : ℕ) (c : Counts) → i ≡ 64 * (j + 1) → totalsHoldOf b i c ≡ true → totalsIn b (countIn b) j ≡ c
+unfolding totalsHoldOf
 total-right b i j c e h =
     let r : i % 64 ≡ 0 = omega arith in
     let q : i / 64 - 1 ≡ j = omega arith in
     let t : sameOf c (totalsIn b (countIn b) j) ≡ true = rw (eq-eqb (i % 64) 0 r, q) at h in
     sym (same c (totalsIn b (countIn b) j) t)
 
-total-holds : (b : List ℕ) (i : ℕ) (c : Counts) → (i % 64 ≡ 0 → totalsIn b (countIn b) (i / 64 - 1) ≡ c) → totalsHold b i c ≡ true
-unfolding totalsHold
+total-holds : (b : List ℕ) (i : ℕ) (c : Counts) → (i % 64 ≡ 0 → totalsIn b (countIn b) (i / 64 - 1) ≡ c) → totalsHoldOf b i c ≡ true
+unfolding totalsHoldOf
 total-holds b i c f = cases (eqb (i % 64) 0) (λ e. rw (e, f (eqb-true (i % 64) 0 e)) (self c)) (λ e. rw e)
 
 -- ---- both ways
@@ -85,16 +85,16 @@ module _ (b : List ℕ) where
   pub yes-right : checkOf b ≡ true → Right b
   unfolding checkOf holdsAt
   yes-right h =
-      let shape = and-left (shapeOf b) (holdsFrom b (countIn b) 0) h in
-      let holds = and-right (shapeOf b) (holdsFrom b (countIn b) 0) h in
-      let ok : (m : ℕ) → m < countIn b → (validIn b m && totalsHold b (suc m) (countsTo b (suc m))) ≡ true = λ m l. each b (countIn b) 0 m holds (omega arith) (omega arith) in
+      let shape = and-left (shapedOf b) (holdsFrom b (countIn b) 0) h in
+      let holds = and-right (shapedOf b) (holdsFrom b (countIn b) 0) h in
+      let ok : (m : ℕ) → m < countIn b → (validOf b m && totalsHoldOf b (suc m) (countsTo b (suc m))) ≡ true = λ m l. each b (countIn b) 0 m holds (omega arith) (omega arith) in
       record {
         shape = shape-holds b shape;
-        litters = λ i l. and-left (validIn b i) (totalsHold b (suc i) (countsTo b (suc i))) (ok i l);
+        litters = λ i l. and-left (validOf b i) (totalsHoldOf b (suc i) (countsTo b (suc i))) (ok i l);
         totals =
             λ j l.
             let e : suc (64 * j + 63) ≡ 64 * (j + 1) = omega arith in
-            let t = and-right (validIn b (64 * j + 63)) (totalsHold b (suc (64 * j + 63)) (countsTo b (suc (64 * j + 63)))) (ok (64 * j + 63) (omega arith)) in
+            let t = and-right (validOf b (64 * j + 63)) (totalsHoldOf b (suc (64 * j + 63)) (countsTo b (suc (64 * j + 63)))) (ok (64 * j + 63) (omega arith)) in
             total-right b (suc (64 * j + 63)) j (countsTo b (suc (64 * j + 63))) e t ∙ ap (countsTo b) e;
       }
 
@@ -104,12 +104,12 @@ module _ (b : List ℕ) where
       let holds =
       all b (countIn b) 0
       (λ m l u.
-      and-both (validIn b m) (totalsHold b (suc m) (countsTo b (suc m))) (r .litters m (omega arith))
+      and-both (validOf b m) (totalsHoldOf b (suc m) (countsTo b (suc m))) (r .litters m (omega arith))
       (total-holds b (suc m) (countsTo b (suc m))
       (λ z.
       let e : 64 * (suc m / 64 - 1 + 1) ≡ suc m = omega arith in
       r .totals (suc m / 64 - 1) (omega arith) ∙ ap (countsTo b) e))) in
-      and-both (shapeOf b) (holdsFrom b (countIn b) 0) (shape-is b (r .shape)) holds
+      and-both (shapedOf b) (holdsFrom b (countIn b) 0) (shape-is b (r .shape)) holds
 
   -- yes exactly for an archive that is right
   pub exactly : (checkOf b ≡ true → Right b) × (Right b → checkOf b ≡ true)

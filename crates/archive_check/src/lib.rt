@@ -5,10 +5,10 @@ ghost use mathlib.Core.Path.{_≡_};
 ghost use Prim.Native.Nat.{_≤_};
 ghost use Rattle.archive.specs.Layout.{countIn};
 ghost use Rattle.archive.specs.Shaped.{Shaped};
-ghost use Rattle.archive_check.specs.Check.{sameGroup, sameOf, totalsHold, holdsFrom, checkOf};
+ghost use Rattle.archive_check.specs.Check.{sameGroupOf, sameOf, totalsHoldOf, holdsFrom, checkOf};
 
 fn same_group(a: GroupCounts, b: GroupCounts) -> bool
-    ensures { λ r. ⌜ r ≡ sameGroup a b ⌝ }
+    ensures { λ r. ⌜ r ≡ sameGroupOf a b ⌝ }
 {
     num::both(
         num::both(a.litters == b.litters, a.successes == b.successes),
@@ -25,7 +25,7 @@ fn same(a: Counts, b: Counts) -> bool
 // c is what the first i litters count. Where they are full 64s, the totals there say the same.
 fn totals_hold(b: &[u8], i: usize, c: Counts) -> bool
     requires { ⌜ Shaped (now b) × (1 ≤ i) × (i ≤ countIn (now b)) ⌝ }
-    ensures { λ r. ⌜ r ≡ totalsHold (now (b .entry)) i c ⌝ }
+    ensures { λ r. ⌜ r ≡ totalsHoldOf (now (b .entry)) i c ⌝ }
 {
     if i % 64 != 0 {
         return true;

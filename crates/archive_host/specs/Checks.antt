@@ -8,10 +8,10 @@ use Rattle.archive_range.specs.Range.{rangeOf}
 use Rattle.archive_range.specs.Counted.{countedRange, range-counted}
 use Rattle.archive_check.specs.Check.{checkOf}
 use Rattle.archive_check.specs.Exactly.{yes-right, right-yes}
-use Rattle.archive_write.specs.Archive.{archiveOf, writable}
+use Rattle.archive_write.specs.Archive.{archiveOf, isWritableOf}
 use Rattle.archive_write.specs.ReadBack.{archive-right}
 
-pub archive-checks : (ls : List ℕ) (room : ℕ) → writable ls room ≡ true → checkOf (archiveOf ls) ≡ true
+pub archive-checks : (ls : List ℕ) (room : ℕ) → isWritableOf ls room ≡ true → checkOf (archiveOf ls) ≡ true
 archive-checks ls room w = right-yes (archiveOf ls) (archive-right ls room w)
 
 -- of an archive that passes the check, a range is the summary counted over its litters

@@ -5,13 +5,13 @@ use Prim.Native.Nat.{ℕ}
 use lib.Dec.{leb}
 use lib.ListN.{length}
 use Rattle.summary.specs.declared.GroupCounts.{GroupCounts}
-use Rattle.put.specs.Stored.{stored}
+use Rattle.store.specs.Stored.{stored}
 use Rattle.archive.specs.declared.counts.Counts.{Counts}
 use Rattle.archive.specs.Layout.{numberOf, sizeOf}
 use Rattle.archive_range.specs.declared.Range.{Range}
 use Rattle.archive_range.specs.Range.{rangeOf}
 use Rattle.archive_check.specs.Check.{checkOf}
-use Rattle.archive_write.specs.Archive.{writtenOf}
+use Rattle.archive_write.specs.Archive.{writeOf}
 
 -- a call's value, and what its buffer holds after it
 pub record Given : Type 0 where
@@ -25,18 +25,18 @@ abbrev groupList : GroupCounts → List ℕ
 groupList g = g .litters ∷ g .successes ∷ g .trials ∷ g .extreme ∷ []
 
 -- of group 0, then of group 1
-abbrev pub countsList : Counts → List ℕ
-countsList c = groupList (c .first) ++ groupList (c .second)
+abbrev pub listedOf : Counts → List ℕ
+listedOf c = groupList (c .first) ++ groupList (c .second)
 
-unfoldable pub rangePut : Range → List ℕ → Given
-rangePut r counts = given (numberOf (r .end)) (stored counts (countsList (r .counts)))
+unfoldable pub putRangeOf : Range → List ℕ → Given
+putRangeOf r counts = given (numberOf (r .end)) (stored counts (listedOf (r .counts)))
 
 -- eight places, or nothing is written
 unfoldable pub rangeGiven : List ℕ → ℕ → ℕ → List ℕ → Given
-rangeGiven b from to counts = cond (leb 8 (length counts)) (rangePut (rangeOf b from to) counts) (given 1 counts)
+rangeGiven b from to counts = cond (leb 8 (length counts)) (putRangeOf (rangeOf b from to) counts) (given 1 counts)
 
 unfoldable pub writeGiven : List ℕ → List ℕ → Given
-writeGiven ls out = given (numberOf (writtenOf ls out .end)) (writtenOf ls out .out)
+writeGiven ls out = given (numberOf (writeOf ls out .end)) (writeOf ls out .out)
 
 abbrev pub checkGiven : List ℕ → ℕ
 checkGiven b = cond (checkOf b) 1 0

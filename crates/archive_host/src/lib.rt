@@ -4,7 +4,7 @@ use archive_range::Range;
 ghost use mathlib.Core.Path.{_≡_};
 ghost use Prim.Native.Nat.{_≤_};
 ghost use lib.ListN.{length};
-ghost use Rattle.archive_host.specs.Host.{given, countsList, rangePut, rangeGiven, writeGiven, checkGiven, sizeGiven};
+ghost use Rattle.archive_host.specs.Host.{given, listedOf, putRangeOf, rangeGiven, writeGiven, checkGiven, sizeGiven};
 
 // The bytes of an archive of n litters; 0 for more than 4,096.
 pub fn size_in(n: usize) -> usize
@@ -31,7 +31,7 @@ pub fn write_in(litters: &[u32], out: &mut [u8]) -> u64
 }
 
 fn listed(c: Counts) -> [u64; 8]
-    ensures { λ r. ⌜ r ≡ countsList c ⌝ }
+    ensures { λ r. ⌜ r ≡ listedOf c ⌝ }
 {
     let a = c.first;
     let b = c.second;
@@ -49,11 +49,11 @@ fn listed(c: Counts) -> [u64; 8]
 
 fn put_range(r: Range, counts: &mut [u64]) -> u64
     requires { ⌜ 8 ≤ length (now counts) ⌝ }
-    ensures { λ v. ⌜ given v (now (counts .exit)) ≡ rangePut r (now (counts .entry)) ⌝ }
+    ensures { λ v. ⌜ given v (now (counts .exit)) ≡ putRangeOf r (now (counts .entry)) ⌝ }
 {
     let c = listed(r.counts);
     let end = r.end;
-    put::counts(&c, counts);
+    store::counts(&c, counts);
     archive::number(end)
 }
 

@@ -12,43 +12,43 @@ use Rattle.num.specs.Left.{left-one, left-none}
 use Rattle.summary.specs.declared.GroupCounts.{GroupCounts}
 use Rattle.archive.specs.declared.counts.Counts.{Counts}
 use Rattle.archive.specs.declared.Outcome.the-variants.{Answered, InvalidInput, Form}
-use Rattle.archive.specs.Layout.{validIn, countIn, shapeOf}
+use Rattle.archive.specs.Layout.{validOf, countIn, shapedOf}
 use Rattle.archive.specs.Shaped.{Shaped, shape-holds, and-left, and-right}
-use Rattle.archive.specs.Counts.{none, bothOf, litterIn, bothTotals, totalsIn}
-use Rattle.archive_range.specs.Reads.{total, litter, littersFrom, lastTotal, readsOf, isValid, summed, validReads, runningOf}
+use Rattle.archive.specs.Counts.{none, bothOf, litterIn, totalsOf, totalsIn}
+use Rattle.archive_range.specs.Reads.{total, litter, littersFrom, lastTotal, readsOf, isValid, summed, validReadsOf, runningOf}
 use Rattle.archive_range.specs.declared.Range.{Range}
-use Rattle.archive_range.specs.Range.{fitsOf, groupWithin, withinOf, groupLess, lessOf, refusedOf, differenceOf, judgedOf, rangeOf, Under}
+use Rattle.archive_range.specs.Range.{fitsOf, groupWithinOf, withinOf, groupLessOf, lessOf, refusedOf, differenceOf, judgedOf, rangeOf, Under}
 
 -- ---- the litters since the last totals
 
 start-left : (p : ℕ) → p - 64 * (p / 64) ≡ p % 64
 start-left p = omega arith
 
-valid-after : (b : List ℕ) (q k i : ℕ) → validReads b (littersFrom k i) ≡ validReads b (lastTotal q ++ littersFrom k i)
-unfolding lastTotal validReads
+valid-after : (b : List ℕ) (q k i : ℕ) → validReadsOf b (littersFrom k i) ≡ validReadsOf b (lastTotal q ++ littersFrom k i)
+unfolding lastTotal validReadsOf
 valid-after b zero k i = refl
 valid-after b (suc j) k i = refl
 
 module _ (b : List ℕ) (p : ℕ) where
-  pub valid-begin : validReads b (littersFrom (p - 64 * (p / 64)) (64 * (p / 64))) ≡ validReads b (readsOf p)
+  pub valid-begin : validReadsOf b (littersFrom (p - 64 * (p / 64)) (64 * (p / 64))) ≡ validReadsOf b (readsOf p)
   unfolding readsOf
   valid-begin = rw (start-left p) (valid-after b (p / 64) (p % 64) (64 * (p / 64)))
 
-  module _ (i : ℕ) (v : validReads b (littersFrom (p - i) i) ≡ validReads b (readsOf p)) where
-    pub valid-stops : (t : Bool) → i < p → t ≡ validIn b i → t ≡ false → false ≡ validReads b (readsOf p)
-    unfolding littersFrom validReads
+  module _ (i : ℕ) (v : validReadsOf b (littersFrom (p - i) i) ≡ validReadsOf b (readsOf p)) where
+    pub valid-stops : (t : Bool) → i < p → t ≡ validOf b i → t ≡ false → false ≡ validReadsOf b (readsOf p)
+    unfolding littersFrom validReadsOf
     valid-stops t h e f =
-        let w : (validIn b i && validReads b (littersFrom (p - (i + 1)) (i + 1))) ≡ validReads b (readsOf p) = rw (left-one p i h) at v in
+        let w : (validOf b i && validReadsOf b (littersFrom (p - (i + 1)) (i + 1))) ≡ validReadsOf b (readsOf p) = rw (left-one p i h) at v in
         rw (← e, f) at w
 
-    pub valid-goes : (t : Bool) → i < p → t ≡ validIn b i → t ≡ true → validReads b (littersFrom (p - (i + 1)) (i + 1)) ≡ validReads b (readsOf p)
-    unfolding littersFrom validReads
+    pub valid-goes : (t : Bool) → i < p → t ≡ validOf b i → t ≡ true → validReadsOf b (littersFrom (p - (i + 1)) (i + 1)) ≡ validReadsOf b (readsOf p)
+    unfolding littersFrom validReadsOf
     valid-goes t h e f =
-        let w : (validIn b i && validReads b (littersFrom (p - (i + 1)) (i + 1))) ≡ validReads b (readsOf p) = rw (left-one p i h) at v in
+        let w : (validOf b i && validReadsOf b (littersFrom (p - (i + 1)) (i + 1))) ≡ validReadsOf b (readsOf p) = rw (left-one p i h) at v in
         rw (← e, f) at w
 
-    pub valid-done : p ≤ i → true ≡ validReads b (readsOf p)
-    unfolding littersFrom validReads
+    pub valid-done : p ≤ i → true ≡ validReadsOf b (readsOf p)
+    unfolding littersFrom validReadsOf
     valid-done h = rw (left-none p i h) at v
 
 summed-after : (b : List ℕ) (c : Counts) (q k i : ℕ) → c ≡ summed b none (lastTotal q) → summed b c (littersFrom k i) ≡ summed b none (lastTotal q ++ littersFrom k i)
@@ -80,15 +80,15 @@ total-sum : (b : List ℕ) (j : ℕ) → totalsIn b (countIn b) j ≡ summed b n
 unfolding lastTotal summed totalsIn
 total-sum b j = simp zero-add
 
-pub one-total : (b : List ℕ) (q n : ℕ) (r : Counts) → (q ≡ 0 → ⊥) → n ≡ countIn b → r ≡ bothTotals b (12 * n + 32 * (q - 1)) → r ≡ summed b none (lastTotal q)
+pub one-total : (b : List ℕ) (q n : ℕ) (r : Counts) → (q ≡ 0 → ⊥) → n ≡ countIn b → r ≡ totalsOf b (12 * n + 32 * (q - 1)) → r ≡ summed b none (lastTotal q)
 unfolding totalsIn
 one-total b zero n r h u e = absurd (h refl)
-one-total b (suc j) n r h u e = let k : 12 * n + 32 * (suc j - 1) ≡ 12 * countIn b + 32 * j = omega arith in e ∙ (ap (bothTotals b) k ∙ total-sum b j)
+one-total b (suc j) n r h u e = let k : 12 * n + 32 * (suc j - 1) ≡ 12 * countIn b + 32 * j = omega arith in e ∙ (ap (totalsOf b) k ∙ total-sum b j)
 
 -- ---- a difference
 
-under : (a b : GroupCounts) → groupWithin a b ≡ true → Under a b
-unfolding groupWithin
+under : (a b : GroupCounts) → groupWithinOf a b ≡ true → Under a b
+unfolding groupWithinOf
 under a b h =
     let x = leb (a .litters) (b .litters) in
     let y = leb (a .successes) (b .successes) in
@@ -106,17 +106,17 @@ under a b h =
 pub both-under : (a b : Counts) (s t : Bool) → t ≡ (s && withinOf a b) → t ≡ true → Under (a .first) (b .first) × Under (a .second) (b .second)
 unfolding withinOf
 both-under a b s t e h =
-    let w = and-right s (groupWithin (a .first) (b .first) && groupWithin (a .second) (b .second)) (sym e ∙ h) in (
-      under (a .first) (b .first) (and-left (groupWithin (a .first) (b .first)) (groupWithin (a .second) (b .second)) w),
-      under (a .second) (b .second) (and-right (groupWithin (a .first) (b .first)) (groupWithin (a .second) (b .second)) w),
+    let w = and-right s (groupWithinOf (a .first) (b .first) && groupWithinOf (a .second) (b .second)) (sym e ∙ h) in (
+      under (a .first) (b .first) (and-left (groupWithinOf (a .first) (b .first)) (groupWithinOf (a .second) (b .second)) w),
+      under (a .second) (b .second) (and-right (groupWithinOf (a .first) (b .first)) (groupWithinOf (a .second) (b .second)) w),
     )
 
 -- ---- the refusals in their order
 
-pub long-enough : (b : List ℕ) (t : Bool) → t ≡ shapeOf b → t ≡ true → 12 ≤ length b
+pub long-enough : (b : List ℕ) (t : Bool) → t ≡ shapedOf b → t ≡ true → 12 ≤ length b
 long-enough b t e h = let s = shape-holds b (sym e ∙ h) in omega (arith, s .long)
 
-pub has-shape : (b : List ℕ) (t : Bool) → t ≡ shapeOf b → t ≡ true → Shaped b
+pub has-shape : (b : List ℕ) (t : Bool) → t ≡ shapedOf b → t ≡ true → Shaped b
 has-shape b t e h = shape-holds b (sym e ∙ h)
 
 pub in-order : (from to n : ℕ) (s : Bool) → s ≡ (leb from to && leb to n) → s ≡ true → from ≤ to
@@ -126,11 +126,11 @@ pub in-bounds : (b : List ℕ) (from to n : ℕ) (s : Bool) → n ≡ countIn b 
 in-bounds b from to n s e f k = rw (← e) (leb-true to n (and-right (leb from to) (leb to n) (sym f ∙ k)))
 
 module _ (b : List ℕ) (from to : ℕ) (r : Range) where
-  pub no-shape : (t : Bool) → t ≡ shapeOf b → t ≡ false → r ≡ refusedOf (Form 0) → r ≡ rangeOf b from to
+  pub no-shape : (t : Bool) → t ≡ shapedOf b → t ≡ false → r ≡ refusedOf (Form 0) → r ≡ rangeOf b from to
   unfolding rangeOf
   no-shape t e h u = rw (← e, h) u
 
-  module _ (t : Bool) (e : t ≡ shapeOf b) (h : t ≡ true) (n : ℕ) (en : n ≡ countIn b) (s : Bool) (f : s ≡ (leb from to && leb to n)) where
+  module _ (t : Bool) (e : t ≡ shapedOf b) (h : t ≡ true) (n : ℕ) (en : n ≡ countIn b) (s : Bool) (f : s ≡ (leb from to && leb to n)) where
     pub no-order : s ≡ false → r ≡ refusedOf InvalidInput → r ≡ rangeOf b from to
     unfolding rangeOf
     no-order k u = rw (← e, h, ← en, ← f, k) u
@@ -147,7 +147,7 @@ two x y p q r a b c = rw (← a, ← b) c
 pub four : (x y z w p q r : Bool) → p ≡ (x && y) → q ≡ (z && w) → r ≡ (p && q) → r ≡ ((x && y) && (z && w))
 four x y z w p q r a b c = rw (← a, ← b) c
 
-pub less-is : (a b : Counts) (x y : GroupCounts) → x ≡ groupLess (a .first) (b .first) → y ≡ groupLess (a .second) (b .second) → record { first = x; second = y } ≡ lessOf a b
+pub less-is : (a b : Counts) (x y : GroupCounts) → x ≡ groupLessOf (a .first) (b .first) → y ≡ groupLessOf (a .second) (b .second) → record { first = x; second = y } ≡ lessOf a b
 less-is a b x y e f = λ j. record { first = e j; second = f j }
 
 pub subtracted-is : (b : List ℕ) (from to : ℕ) (c d : Counts) (r : Range) → c ≡ runningOf b from → d ≡ runningOf b to → r ≡ differenceOf c d → r ≡ differenceOf (runningOf b from) (runningOf b to)

@@ -8,18 +8,19 @@ use native.Mathlib.Numerals.{add-one}
 use native.Mathlib.Omega.{arith}
 use borrow.Author.Tests.{le-leb}
 use Rattle.summary.specs.declared.GroupCounts.{GroupCounts}
+use Rattle.summary.specs.Most.{Most}
 use Rattle.summary.specs.Summary.{plusOf, countsFrom, countsOf}
 use Rattle.archive.specs.declared.Outcome.the-variants.{Answered}
 use Rattle.archive.specs.declared.counts.Counts.{Counts}
-use Rattle.archive.specs.Layout.{validIn, countIn}
+use Rattle.archive.specs.Layout.{validOf, countIn}
 use Rattle.archive.specs.Shaped.{shape-is, and-both}
-use Rattle.archive.specs.Counts.{none, bothOf, countsTo, numbersFrom, Most, BothMost}
+use Rattle.archive.specs.Counts.{none, bothOf, countsTo, numbersFrom, BothMost}
 use Rattle.archive.specs.Right.{Right}
 use Rattle.archive.specs.Most.{counts-most}
 use Rattle.archive.specs.Split.{countedOf, split}
 use Rattle.archive_range.specs.declared.Range.{Range}
-use Rattle.archive_range.specs.Reads.{Read, total, litter, littersFrom, lastTotal, readsOf, readIn, isValid, summed, validReads, runningOf}
-use Rattle.archive_range.specs.Range.{groupFits, fitsOf, groupWithin, withinOf, groupLess, lessOf, differenceOf, inOrder, judgedOf, rangeOf}
+use Rattle.archive_range.specs.Reads.{Read, total, litter, littersFrom, lastTotal, readsOf, readIn, isValid, summed, validReadsOf, runningOf}
+use Rattle.archive_range.specs.Range.{groupFitsOf, fitsOf, groupWithinOf, withinOf, groupLessOf, lessOf, differenceOf, inOrder, judgedOf, rangeOf}
 
 -- ---- the running summary is the count of all litters before the position
 
@@ -57,24 +58,24 @@ module _ (b : List ℕ) (r : Right b) where
 
   -- ---- what is read is valid
 
-  valid-from : (k i : ℕ) → i + k ≤ countIn b → validReads b (littersFrom k i) ≡ true
-  unfolding validReads littersFrom
+  valid-from : (k i : ℕ) → i + k ≤ countIn b → validReadsOf b (littersFrom k i) ≡ true
+  unfolding validReadsOf littersFrom
   valid-from zero i h = refl
-  valid-from (suc k) i h = and-both (validIn b i) (validReads b (littersFrom k (i + 1))) (r .litters i (omega arith)) (valid-from k (i + 1) (omega arith))
+  valid-from (suc k) i h = and-both (validOf b i) (validReadsOf b (littersFrom k (i + 1))) (r .litters i (omega arith)) (valid-from k (i + 1) (omega arith))
 
-  valid-all : (q k i : ℕ) → i + k ≤ countIn b → validReads b (lastTotal q ++ littersFrom k i) ≡ true
-  unfolding validReads lastTotal
+  valid-all : (q k i : ℕ) → i + k ≤ countIn b → validReadsOf b (lastTotal q ++ littersFrom k i) ≡ true
+  unfolding validReadsOf lastTotal
   valid-all zero k i h = valid-from k i h
   valid-all (suc j) k i h = valid-from k i h
 
-  valid-reads : (p : ℕ) → p ≤ countIn b → validReads b (readsOf p) ≡ true
+  valid-reads : (p : ℕ) → p ≤ countIn b → validReadsOf b (readsOf p) ≡ true
   unfolding readsOf
   valid-reads p h = valid-all (p / 64) (p % 64) (64 * (p / 64)) (omega arith)
 
 -- ---- counts of valid litters fit, and a difference takes back what was added
 
-group-fits : (c : GroupCounts) (m : ℕ) → m ≤ 0xffff_ffff → Most c m → groupFits c ≡ true
-unfolding groupFits
+group-fits : (c : GroupCounts) (m : ℕ) → m ≤ 0xffff_ffff → Most c m → groupFitsOf c ≡ true
+unfolding groupFitsOf
 group-fits c m h x =
     let p = le-leb (c .litters) 0xffff_ffff (omega arith) in
     let q = le-leb (c .successes) 0xffff_ffff (omega arith) in
@@ -84,10 +85,10 @@ group-fits c m h x =
 
 fits : (c : Counts) (m : ℕ) → m ≤ 0xffff_ffff → BothMost c m → fitsOf c ≡ true
 unfolding fitsOf
-fits c m h x = and-both (groupFits (c .first)) (groupFits (c .second)) (group-fits (c .first) m h (x .first)) (group-fits (c .second) m h (x .second))
+fits c m h x = and-both (groupFitsOf (c .first)) (groupFitsOf (c .second)) (group-fits (c .first) m h (x .first)) (group-fits (c .second) m h (x .second))
 
-group-within : (a d : GroupCounts) → groupWithin a (plusOf a d) ≡ true
-unfolding groupWithin
+group-within : (a d : GroupCounts) → groupWithinOf a (plusOf a d) ≡ true
+unfolding groupWithinOf
 group-within a d =
     let p = le-leb (a .litters) (a .litters + d .litters) (omega arith) in
     let q = le-leb (a .successes) (a .successes + d .successes) (omega arith) in
@@ -97,7 +98,7 @@ group-within a d =
 
 within : (a d : Counts) → withinOf a (bothOf a d) ≡ true
 unfolding withinOf
-within a d = and-both (groupWithin (a .first) (plusOf (a .first) (d .first))) (groupWithin (a .second) (plusOf (a .second) (d .second))) (group-within (a .first) (d .first)) (group-within (a .second) (d .second))
+within a d = and-both (groupWithinOf (a .first) (plusOf (a .first) (d .first))) (groupWithinOf (a .second) (plusOf (a .second) (d .second))) (group-within (a .first) (d .first)) (group-within (a .second) (d .second))
 
 back : (x y : ℕ) → x + y - x ≡ y
 back x y = omega arith

@@ -8,7 +8,7 @@ use native.Mathlib.Omega.{arith}
 use native.Mathlib.Nat.{mod-lt}
 use Rattle.archive.specs.declared.counts.Counts.{Counts}
 use Rattle.archive.specs.Counts.{none, bothOf}
-use Rattle.archive_range.specs.Reads.{Read, total, litter, littersFrom, lastTotal, readsOf, readIn, isValid, summed, validReads, runningOf}
+use Rattle.archive_range.specs.Reads.{Read, total, litter, littersFrom, lastTotal, readsOf, readIn, isValid, summed, validReadsOf, runningOf}
 
 -- how many of the reads are totals, and how many litters
 abbrev pub totalsRead : List Read → ℕ
@@ -61,11 +61,11 @@ unfolding summed
 same-sum a b c [] h = refl
 same-sum a b c (r ∷ rs) h = rw (h .0) (same-sum a b (bothOf c (readIn b r)) rs (h .2))
 
-same-valid : (a b : List ℕ) (rs : List Read) → Agree a b rs → validReads a rs ≡ validReads b rs
-unfolding validReads
+same-valid : (a b : List ℕ) (rs : List Read) → Agree a b rs → validReadsOf a rs ≡ validReadsOf b rs
+unfolding validReadsOf
 same-valid a b [] h = refl
 same-valid a b (r ∷ rs) h = rw (h .1, same-valid a b rs (h .2))
 
-pub only-read : (a b : List ℕ) (p : ℕ) → Agree a b (readsOf p) → (runningOf a p ≡ runningOf b p) × (validReads a (readsOf p) ≡ validReads b (readsOf p))
+pub only-read : (a b : List ℕ) (p : ℕ) → Agree a b (readsOf p) → (runningOf a p ≡ runningOf b p) × (validReadsOf a (readsOf p) ≡ validReadsOf b (readsOf p))
 unfolding runningOf
 only-read a b p h = (same-sum a b none (readsOf p) h, same-valid a b (readsOf p) h)

@@ -7,30 +7,30 @@ use Rattle.summary.specs.declared.GroupCounts.{GroupCounts}
 use Rattle.archive.specs.declared.Outcome.{Outcome}
 use Rattle.archive.specs.declared.Outcome.the-variants.{Answered, InvalidInput, Form}
 use Rattle.archive.specs.declared.counts.Counts.{Counts}
-use Rattle.archive.specs.Layout.{countIn, shapeOf}
+use Rattle.archive.specs.Layout.{countIn, shapedOf}
 use Rattle.archive.specs.Counts.{none}
 use Rattle.archive_range.specs.declared.Range.{Range}
-use Rattle.archive_range.specs.Reads.{readsOf, validReads, runningOf}
+use Rattle.archive_range.specs.Reads.{readsOf, validReadsOf, runningOf}
 
 abbrev pub refusedOf : Outcome → Range
 refusedOf o = record { end = o; counts = none }
 
 -- a group's sums within 32 bits. Sums only grow, so if the last is, all before it are.
-unfoldable pub groupFits : GroupCounts → Bool
-groupFits c = (leb (c .litters) 0xffff_ffff && leb (c .successes) 0xffff_ffff) && (leb (c .trials) 0xffff_ffff && leb (c .extreme) 0xffff_ffff)
+unfoldable pub groupFitsOf : GroupCounts → Bool
+groupFitsOf c = (leb (c .litters) 0xffff_ffff && leb (c .successes) 0xffff_ffff) && (leb (c .trials) 0xffff_ffff && leb (c .extreme) 0xffff_ffff)
 
 unfoldable pub fitsOf : Counts → Bool
-fitsOf c = groupFits (c .first) && groupFits (c .second)
+fitsOf c = groupFitsOf (c .first) && groupFitsOf (c .second)
 
 -- none of a group's differences negative
-unfoldable pub groupWithin : GroupCounts → GroupCounts → Bool
-groupWithin a b = (leb (a .litters) (b .litters) && leb (a .successes) (b .successes)) && (leb (a .trials) (b .trials) && leb (a .extreme) (b .extreme))
+unfoldable pub groupWithinOf : GroupCounts → GroupCounts → Bool
+groupWithinOf a b = (leb (a .litters) (b .litters) && leb (a .successes) (b .successes)) && (leb (a .trials) (b .trials) && leb (a .extreme) (b .extreme))
 
 unfoldable pub withinOf : Counts → Counts → Bool
-withinOf a b = groupWithin (a .first) (b .first) && groupWithin (a .second) (b .second)
+withinOf a b = groupWithinOf (a .first) (b .first) && groupWithinOf (a .second) (b .second)
 
-abbrev pub groupLess : GroupCounts → GroupCounts → GroupCounts
-groupLess a b =
+abbrev pub groupLessOf : GroupCounts → GroupCounts → GroupCounts
+groupLessOf a b =
     record {
       litters = b .litters - a .litters;
       successes = b .successes - a .successes;
@@ -39,7 +39,7 @@ groupLess a b =
     }
 
 abbrev pub lessOf : Counts → Counts → Counts
-lessOf a b = record { first = groupLess (a .first) (b .first); second = groupLess (a .second) (b .second) }
+lessOf a b = record { first = groupLessOf (a .first) (b .first); second = groupLessOf (a .second) (b .second) }
 
 -- from a up to b: a sum past 32 bits or a negative difference is Form
 unfoldable pub differenceOf : Counts → Counts → Range
@@ -50,10 +50,10 @@ inOrder from to n = leb from to && leb to n
 
 -- Every litter that either running summary reads is looked at before either is summed.
 unfoldable pub judgedOf : List ℕ → ℕ → ℕ → Range
-judgedOf b from to = cond (validReads b (readsOf from) && validReads b (readsOf to)) (differenceOf (runningOf b from) (runningOf b to)) (refusedOf InvalidInput)
+judgedOf b from to = cond (validReadsOf b (readsOf from) && validReadsOf b (readsOf to)) (differenceOf (runningOf b from) (runningOf b to)) (refusedOf InvalidInput)
 
 unfoldable pub rangeOf : List ℕ → ℕ → ℕ → Range
-rangeOf b from to = cond (shapeOf b) (cond (inOrder from to (countIn b)) (judgedOf b from to) (refusedOf InvalidInput)) (refusedOf (Form 0))
+rangeOf b from to = cond (shapedOf b) (cond (inOrder from to (countIn b)) (judgedOf b from to) (refusedOf InvalidInput)) (refusedOf (Form 0))
 
 -- two groups' counts whose differences are not negative
 pub record Under (a b : GroupCounts) : Type 0 where

@@ -4,7 +4,7 @@ use mathlib.Core.Bool.{Bool, true, _&&_}
 use mathlib.Core.List.{List, [], _∷_, _++_}
 use Prim.Native.Nat.{ℕ, zero, suc, _+_, _*_, _/_, _%_}
 use Rattle.archive.specs.declared.counts.Counts.{Counts}
-use Rattle.archive.specs.Layout.{validIn, countIn}
+use Rattle.archive.specs.Layout.{validOf, countIn}
 use Rattle.archive.specs.Counts.{none, bothOf, litterIn, totalsIn}
 
 -- totals and litters, counted from 0
@@ -38,11 +38,11 @@ summed b c (r ∷ rs) = summed b (bothOf c (readIn b r)) rs
 -- of the litters among them, each is valid
 abbrev pub isValid : List ℕ → Read → Bool
 isValid b (total j) = true
-isValid b (litter i) = validIn b i
+isValid b (litter i) = validOf b i
 
-unfoldable pub validReads : List ℕ → List Read → Bool
-validReads b [] = true
-validReads b (r ∷ rs) = isValid b r && validReads b rs
+unfoldable pub validReadsOf : List ℕ → List Read → Bool
+validReadsOf b [] = true
+validReadsOf b (r ∷ rs) = isValid b r && validReadsOf b rs
 
 unfoldable pub runningOf : List ℕ → ℕ → Counts
 runningOf b p = summed b none (readsOf p)

@@ -4,10 +4,10 @@ use archive::Outcome;
 use archive::counts::Counts;
 use summary::GroupCounts;
 ghost use mathlib.Core.Path.{_≡_};
-ghost use Rattle.archive_range.specs.Range.{groupFits, fitsOf, groupWithin, withinOf, groupLess, lessOf, differenceOf, Under};
+ghost use Rattle.archive_range.specs.Range.{groupFitsOf, fitsOf, groupWithinOf, withinOf, groupLessOf, lessOf, differenceOf, Under};
 
 fn group_fits(c: GroupCounts) -> bool
-    ensures { λ r. ⌜ r ≡ groupFits c ⌝ }
+    ensures { λ r. ⌜ r ≡ groupFitsOf c ⌝ }
 {
     num::both(
         num::both(c.litters <= 0xffff_ffff, c.successes <= 0xffff_ffff),
@@ -22,7 +22,7 @@ fn fits(c: Counts) -> bool
 }
 
 fn group_within(a: GroupCounts, b: GroupCounts) -> bool
-    ensures { λ r. ⌜ r ≡ groupWithin a b ⌝ }
+    ensures { λ r. ⌜ r ≡ groupWithinOf a b ⌝ }
 {
     num::both(
         num::both(a.litters <= b.litters, a.successes <= b.successes),
@@ -41,7 +41,7 @@ fn within(a: Counts, b: Counts) -> bool
 
 fn group_less(a: GroupCounts, b: GroupCounts) -> GroupCounts
     requires { ⌜ Under a b ⌝ }
-    ensures { λ r. ⌜ r ≡ groupLess a b ⌝ }
+    ensures { λ r. ⌜ r ≡ groupLessOf a b ⌝ }
 {
     GroupCounts {
         litters: b.litters - a.litters,

@@ -9,7 +9,7 @@ ghost use mathlib.Core.Bool.{_&&_};
 ghost use Prim.Native.Nat.{_≤_};
 ghost use Rattle.archive.specs.Layout.{countIn};
 ghost use Rattle.archive.specs.Shaped.{Shaped};
-ghost use Rattle.archive_range.specs.Reads.{readsOf, validReads, runningOf};
+ghost use Rattle.archive_range.specs.Reads.{readsOf, validReadsOf, runningOf};
 ghost use Rattle.archive_range.specs.Range.{refusedOf, differenceOf, judgedOf, rangeOf};
 
 pub struct Range {
@@ -26,7 +26,7 @@ pub fn refused(end: Outcome) -> Range
 
 fn both_valid(b: &[u8], from: usize, to: usize) -> bool
     requires { ⌜ Shaped (now b) × (from ≤ to) × (to ≤ countIn (now b)) ⌝ }
-    ensures { λ r. ⌜ r ≡ (validReads (now (b .entry)) (readsOf from) && validReads (now (b .entry)) (readsOf to)) ⌝ }
+    ensures { λ r. ⌜ r ≡ (validReadsOf (now (b .entry)) (readsOf from) && validReadsOf (now (b .entry)) (readsOf to)) ⌝ }
 {
     let first = running::valid_reads(b, from);
     num::both(first, running::valid_reads(b, to))

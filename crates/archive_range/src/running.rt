@@ -5,11 +5,11 @@ ghost use Prim.Native.Nat.{_≤_, _/_};
 ghost use Rattle.archive.specs.Layout.{countIn};
 ghost use Rattle.archive.specs.Shaped.{Shaped};
 ghost use Rattle.archive.specs.Counts.{none, BothBelow};
-ghost use Rattle.archive_range.specs.Reads.{lastTotal, readsOf, summed, validReads, runningOf};
+ghost use Rattle.archive_range.specs.Reads.{lastTotal, readsOf, summed, validReadsOf, runningOf};
 
 pub fn valid_reads(b: &[u8], p: usize) -> bool
     requires { ⌜ Shaped (now b) × (p ≤ countIn (now b)) ⌝ }
-    ensures { λ r. ⌜ r ≡ validReads (now (b .entry)) (readsOf p) ⌝ }
+    ensures { λ r. ⌜ r ≡ validReadsOf (now (b .entry)) (readsOf p) ⌝ }
 {
     let mut k = 64 * (p / 64);
     while k < p {

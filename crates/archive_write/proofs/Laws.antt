@@ -1,75 +1,51 @@
 -- The laws of the writer's tests, stores and loops.
 use mathlib.Core.Path.{_≡_, refl, sym, ap, _∙_}
-use mathlib.Core.Bool.{Bool, true, false, _&&_, cond}
+use mathlib.Core.Bool.{Bool, true, false, _&&_}
 use mathlib.Core.List.{List, [], _∷_, _++_}
-use Prim.Native.Nat.{ℕ, zero, suc, _+_, _-_, _*_, _/_, _%_, _<_, _≤_}
-use native.Mathlib.Nat.{zero-add}
+use Prim.Native.Nat.{ℕ, suc, _+_, _*_, _/_, _%_, _<_, _≤_}
 use native.Mathlib.Numerals.{add-one}
 use native.Mathlib.Omega.{arith}
 use borrow.Author.Tests.{le-leb, lt-leb, leb-true, eq-eqb, ne-eqb}
 use lib.Dec.{leb, eqb}
-use lib.ListN.{length, getD, set}
+use lib.ListN.{length, set}
 use lib.Seq.{sets, length-sets}
-use Rattle.num.specs.Left.{left-one, left-none}
-use Rattle.objective.specs.Litters.{countOf, successesAt, totalAt, groupAt, validLitter, validFrom, validLitters}
-use Rattle.objective.specs.Checks.{and-true}
+use Rattle.litters.specs.Litters.{countOf, successesAt, totalAt, groupAt}
+use Rattle.litters.specs.Valid.{validFrom}
 use Rattle.summary.specs.declared.GroupCounts.{GroupCounts}
-use Rattle.put.specs.Stored.{stored}
+use Rattle.store.specs.Stored.{stored}
 use Rattle.archive.specs.declared.Outcome.the-variants.{Answered, InvalidInput}
 use Rattle.archive.specs.declared.counts.Counts.{Counts}
 use Rattle.archive.specs.Layout.{sizeOf}
 use Rattle.archive.specs.Shaped.{and-left, and-right}
 use Rattle.archive.specs.Counts.{none, bothOf, oneOf, BothBelow}
 use Rattle.archive.specs.Most.{raised}
-use Rattle.archive_write.specs.Archive.{wordBytes, litterBytes, groupBytes, countsBytes, trailerBytes, littersTo, countedTo, totalsTo, archiveOf, writable, written, writtenOf}
+use Rattle.archive_write.specs.Archive.{wordBytes, litterBytes, groupBytes, countsBytes, trailerBytes, littersTo, countedTo, totalsTo, archiveOf, isWritableOf, written, writeOf}
 use Rattle.archive_write.specs.Puts.{next, word-long, group-long, litters-long, totals-long, archive-long, puts-stored}
 
 -- ---- the tests
 
-one-valid : (s t g : ℕ) → validLitters (s ∷ t ∷ g ∷ []) ≡ validLitter s t g
-unfolding validLitters validFrom
-one-valid s t g = and-true (validLitter s t g)
-
-module _ (ls : List ℕ) (n i : ℕ) (v : validFrom ls (n - i) i ≡ validFrom ls (countOf ls) 0) where
-  valid-split : i < n → (validLitter (successesAt ls i) (totalAt ls i) (groupAt ls i) && validFrom ls (n - (i + 1)) (i + 1)) ≡ validFrom ls (countOf ls) 0
-  unfolding validFrom
-  valid-split h = rw (left-one n i h) at v
-
-  pub valid-stops : (t : Bool) → i < n → t ≡ validLitters (successesAt ls i ∷ totalAt ls i ∷ groupAt ls i ∷ []) → t ≡ false → false ≡ validFrom ls (countOf ls) 0
-  valid-stops t h e f = rw (← one-valid (successesAt ls i) (totalAt ls i) (groupAt ls i), ← e, f) at (valid-split h)
-
-  pub valid-goes : (t : Bool) → i < n → t ≡ validLitters (successesAt ls i ∷ totalAt ls i ∷ groupAt ls i ∷ []) → t ≡ true → validFrom ls (n - (i + 1)) (i + 1) ≡ validFrom ls (countOf ls) 0
-  valid-goes t h e f = rw (← one-valid (successesAt ls i) (totalAt ls i) (groupAt ls i), ← e, f) at (valid-split h)
-
-  pub valid-done : n ≤ i → true ≡ validFrom ls (countOf ls) 0
-  unfolding validFrom
-  valid-done h = rw (left-none n i h) at v
-
-pub valid-begin : (ls : List ℕ) → validFrom ls (length ls / 3 - 0) 0 ≡ validFrom ls (countOf ls) 0
-valid-begin ls = let e : length ls / 3 - 0 ≡ length ls / 3 = omega arith in rw e
-
 module _ (ls : List ℕ) (room : ℕ) where
-  pub over : (length ls % 3 ≡ 0 → ⊥) → false ≡ writable ls room
-  unfolding writable
+  pub over : (length ls % 3 ≡ 0 → ⊥) → false ≡ isWritableOf ls room
+  unfolding isWritableOf
   over h = rw (ne-eqb (length ls % 3) 0 h)
 
   module _ (h : length ls % 3 ≡ 0) where
-    pub too-many : 4096 < length ls / 3 → false ≡ writable ls room
-    unfolding writable
+    pub too-many : 4096 < length ls / 3 → false ≡ isWritableOf ls room
+    unfolding isWritableOf
     too-many l = rw (eq-eqb (length ls % 3) 0 h, lt-leb (length ls / 3) 4096 l)
 
-    pub no-room : (m : ℕ) → length ls / 3 ≤ 4096 → m ≡ sizeOf (length ls / 3) → room < m → false ≡ writable ls room
-    unfolding writable
+    pub no-room : (m : ℕ) → length ls / 3 ≤ 4096 → m ≡ sizeOf (length ls / 3) → room < m → false ≡ isWritableOf ls room
+    unfolding isWritableOf
     no-room m l e k = rw (eq-eqb (length ls % 3) 0 h, le-leb (length ls / 3) 4096 l, ← e, lt-leb m room k)
 
-    pub all-there : (m : ℕ) (r : Bool) → length ls / 3 ≤ 4096 → m ≡ sizeOf (length ls / 3) → m ≤ room → r ≡ validFrom ls (countOf ls) 0 → r ≡ writable ls room
-    unfolding writable
+    pub all-there : (m : ℕ) (r : Bool) → length ls / 3 ≤ 4096 → m ≡ sizeOf (length ls / 3) → m ≤ room → r ≡ validFrom ls (countOf ls) 0 → r ≡ isWritableOf ls room
+    unfolding isWritableOf
     all-there m r l e k f = rw (eq-eqb (length ls % 3) 0 h, le-leb (length ls / 3) 4096 l, ← e, le-leb m room k) f
 
 -- what is writable has few litters and room
-module _ (ls : List ℕ) (room : ℕ) (t : Bool) (e : t ≡ writable ls room) (f : t ≡ true) where
+module _ (ls : List ℕ) (room : ℕ) (t : Bool) (e : t ≡ isWritableOf ls room) (f : t ≡ true) where
   rest : (leb (countOf ls) 4096 && (leb (sizeOf (countOf ls)) room && validFrom ls (countOf ls) 0)) ≡ true
-  unfolding writable
+  unfolding isWritableOf
   rest = and-right (eqb (length ls % 3) 0) (leb (countOf ls) 4096 && (leb (sizeOf (countOf ls)) room && validFrom ls (countOf ls) 0)) (sym e ∙ f)
 
   pub few : length ls / 3 ≤ 4096
@@ -178,10 +154,10 @@ archive-put ls l a b m h ea eb em =
     let fits : length (archiveOf ls) ≤ length l = rw (archive-long ls) h in
     z ∙ puts-stored l (archiveOf ls) fits
 
-pub write-done : (ls l m : List ℕ) (t : Bool) → t ≡ writable ls (length l) → t ≡ true → m ≡ stored l (archiveOf ls) → written Answered m ≡ writtenOf ls l
-unfolding writtenOf
+pub write-done : (ls l m : List ℕ) (t : Bool) → t ≡ isWritableOf ls (length l) → t ≡ true → m ≡ stored l (archiveOf ls) → written Answered m ≡ writeOf ls l
+unfolding writeOf
 write-done ls l m t e f em = rw (← e, f) (ap (written Answered) em)
 
-pub not-written : (ls l : List ℕ) (t : Bool) → t ≡ writable ls (length l) → t ≡ false → written InvalidInput l ≡ writtenOf ls l
-unfolding writtenOf
+pub not-written : (ls l : List ℕ) (t : Bool) → t ≡ isWritableOf ls (length l) → t ≡ false → written InvalidInput l ≡ writeOf ls l
+unfolding writeOf
 not-written ls l t e f = rw (← e, f)

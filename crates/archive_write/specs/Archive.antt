@@ -4,9 +4,10 @@ use mathlib.Core.List.{List, [], _∷_, _++_}
 use Prim.Native.Nat.{ℕ, zero, suc, _+_, _*_, _/_, _%_}
 use lib.Dec.{leb, eqb}
 use lib.ListN.{length}
-use Rattle.objective.specs.Litters.{countOf, successesAt, totalAt, groupAt, validFrom}
+use Rattle.litters.specs.Litters.{countOf, successesAt, totalAt, groupAt}
+use Rattle.litters.specs.Valid.{validFrom}
 use Rattle.summary.specs.declared.GroupCounts.{GroupCounts}
-use Rattle.put.specs.Stored.{stored}
+use Rattle.store.specs.Stored.{stored}
 use Rattle.archive.specs.declared.Outcome.{Outcome}
 use Rattle.archive.specs.declared.Outcome.the-variants.{Answered, InvalidInput}
 use Rattle.archive.specs.declared.counts.Counts.{Counts}
@@ -55,8 +56,8 @@ archiveOf ls = littersTo ls (countOf ls) ++ (totalsTo ls (countOf ls / 64) ++ tr
 -- ---- what is written
 
 -- no number over, at most 4,096 litters, room for the archive, every litter valid
-unfoldable pub writable : List ℕ → ℕ → Bool
-writable ls room = eqb (length ls % 3) 0 && (leb (countOf ls) 4096 && (leb (sizeOf (countOf ls)) room && validFrom ls (countOf ls) 0))
+unfoldable pub isWritableOf : List ℕ → ℕ → Bool
+isWritableOf ls room = eqb (length ls % 3) 0 && (leb (countOf ls) 4096 && (leb (sizeOf (countOf ls)) room && validFrom ls (countOf ls) 0))
 
 -- a call's outcome, and what its buffer holds after it
 pub record Written : Type 0 where
@@ -67,5 +68,5 @@ abbrev pub written : Outcome → List ℕ → Written
 written end out = record { end = end; out = out }
 
 -- the archive, and after it the bytes that stood there; or nothing
-unfoldable pub writtenOf : List ℕ → List ℕ → Written
-writtenOf ls out = cond (writable ls (length out)) (written Answered (stored out (archiveOf ls))) (written InvalidInput out)
+unfoldable pub writeOf : List ℕ → List ℕ → Written
+writeOf ls out = cond (isWritableOf ls (length out)) (written Answered (stored out (archiveOf ls))) (written InvalidInput out)

@@ -6,9 +6,9 @@ use native.Mathlib.Nat.{add-zero, zero-add}
 use native.Mathlib.Omega.{arith}
 use lib.ListN.{length, length-append, set, drop}
 use lib.Seq.{sets, sets-eq}
-use Rattle.objective.specs.Litters.{countOf, successesAt, totalAt, groupAt}
+use Rattle.litters.specs.Litters.{countOf, successesAt, totalAt, groupAt}
 use Rattle.summary.specs.declared.GroupCounts.{GroupCounts}
-use Rattle.put.specs.Stored.{stored}
+use Rattle.store.specs.Stored.{stored}
 use Rattle.archive.specs.declared.counts.Counts.{Counts}
 use Rattle.archive.specs.Layout.{sizeOf}
 use Rattle.archive_write.specs.Archive.{wordBytes, litterBytes, groupBytes, countsBytes, trailerBytes, littersTo, countedTo, totalsTo, archiveOf}

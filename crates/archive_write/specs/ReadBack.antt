@@ -10,15 +10,18 @@ use borrow.Table.Steps.{cases}
 use lib.Dec.{leb, eqb, ltb}
 use lib.ListN.{length, getD, drop, drop-of-length-le, List·getD-append}
 use lib.Seq.{getD-append-add, drop-cons}
-use Rattle.objective.specs.Litters.{countOf, successesAt, totalAt, groupAt, validLitter, validFrom}
+use Rattle.litters.specs.Litters.{countOf, successesAt, totalAt, groupAt}
+use Rattle.litters.specs.Valid.{validLitterOf, validFrom}
+use Rattle.litters.specs.Checks.{bounds, each-valid}
 use Rattle.summary.specs.declared.GroupCounts.{GroupCounts}
+use Rattle.summary.specs.Most.{Most}
 use Rattle.archive.specs.declared.counts.Counts.{Counts}
-use Rattle.archive.specs.Layout.{wordAt, groupIn, successesIn, totalIn, validIn, sizeOf, countIn, totalsByteIn, litterByteIn}
+use Rattle.archive.specs.Layout.{wordAt, groupIn, successesIn, totalIn, validOf, sizeOf, countIn, totalsByteIn, litterByteIn}
 use Rattle.archive.specs.Shaped.{Shaped, and-left, and-right}
-use Rattle.archive.specs.Counts.{none, bothOf, oneOf, litterIn, groupTotals, bothTotals, totalsIn, countsTo, numbersFrom, Most, BothMost}
+use Rattle.archive.specs.Counts.{none, bothOf, oneOf, litterIn, groupTotalsOf, totalsOf, totalsIn, countsTo, numbersFrom, BothMost}
 use Rattle.archive.specs.Right.{Right}
 use Rattle.archive.specs.Most.{counts-most}
-use Rattle.archive_write.specs.Archive.{wordBytes, litterBytes, groupBytes, countsBytes, trailerBytes, littersTo, countedTo, totalsTo, archiveOf, writable}
+use Rattle.archive_write.specs.Archive.{wordBytes, litterBytes, groupBytes, countsBytes, trailerBytes, littersTo, countedTo, totalsTo, archiveOf, isWritableOf}
 use Rattle.archive_write.specs.Puts.{word-long, group-long, litter-long, litters-long, totals-long, trailer-long, counts-long, archive-long}
 
 -- ---- a word in one of two lists
@@ -64,7 +67,7 @@ word-past x ys q p e = word-second (wordBytes x) ys q p (omega (arith, word-long
 
 -- ---- a group's totals in one of two lists
 
-group-first : (xs ys : List ℕ) (p : ℕ) → p + 16 ≤ length xs → groupTotals (xs ++ ys) p ≡ groupTotals xs p
+group-first : (xs ys : List ℕ) (p : ℕ) → p + 16 ≤ length xs → groupTotalsOf (xs ++ ys) p ≡ groupTotalsOf xs p
 group-first xs ys p h =
     let a = word-first xs ys p (omega arith) in
     let b = word-first xs ys (p + 4) (omega arith) in
@@ -72,7 +75,7 @@ group-first xs ys p h =
     let d = word-first xs ys (p + 12) (omega arith) in
     λ j. record { litters = a j; successes = b j; trials = c j; extreme = d j }
 
-group-second : (xs ys : List ℕ) (q p : ℕ) → q ≡ length xs + p → groupTotals (xs ++ ys) q ≡ groupTotals ys p
+group-second : (xs ys : List ℕ) (q p : ℕ) → q ≡ length xs + p → groupTotalsOf (xs ++ ys) q ≡ groupTotalsOf ys p
 group-second xs ys q p e =
     let a = word-second xs ys q p (omega arith) in
     let b = word-second xs ys (q + 4) (p + 4) (omega arith) in
@@ -80,19 +83,19 @@ group-second xs ys q p e =
     let d = word-second xs ys (q + 12) (p + 12) (omega arith) in
     λ j. record { litters = a j; successes = b j; trials = c j; extreme = d j }
 
-both-first : (xs ys : List ℕ) (p : ℕ) → p + 32 ≤ length xs → bothTotals (xs ++ ys) p ≡ bothTotals xs p
+both-first : (xs ys : List ℕ) (p : ℕ) → p + 32 ≤ length xs → totalsOf (xs ++ ys) p ≡ totalsOf xs p
 both-first xs ys p h =
     let a = group-first xs ys p (omega arith) in
     let b = group-first xs ys (p + 16) (omega arith) in
     λ j. record { first = a j; second = b j }
 
-both-second : (xs ys : List ℕ) (q p : ℕ) → q ≡ length xs + p → bothTotals (xs ++ ys) q ≡ bothTotals ys p
+both-second : (xs ys : List ℕ) (q p : ℕ) → q ≡ length xs + p → totalsOf (xs ++ ys) q ≡ totalsOf ys p
 both-second xs ys q p e =
     let a = group-second xs ys q p (omega arith) in
     let b = group-second xs ys (q + 16) (p + 16) (omega arith) in
     λ j. record { first = a j; second = b j }
 
-group-read : (c : GroupCounts) → Most c 0xffff_ffff → groupTotals (groupBytes c) 0 ≡ c
+group-read : (c : GroupCounts) → Most c 0xffff_ffff → groupTotalsOf (groupBytes c) 0 ≡ c
 unfolding groupBytes
 group-read c m =
     let u = wordBytes (c .extreme) in
@@ -104,7 +107,7 @@ group-read c m =
     let e = word-past (c .litters) w 12 8 refl ∙ (word-past (c .successes) v 8 4 refl ∙ (word-past (c .trials) u 4 0 refl ∙ word-alone (c .extreme) (omega (arith, m .extreme)))) in
     λ j. record { litters = a j; successes = b j; trials = d j; extreme = e j }
 
-counts-read : (c : Counts) → BothMost c 0xffff_ffff → bothTotals (countsBytes c) 0 ≡ c
+counts-read : (c : Counts) → BothMost c 0xffff_ffff → totalsOf (countsBytes c) 0 ≡ c
 unfolding countsBytes
 counts-read c m =
     let a = group-first (groupBytes (c .first)) (groupBytes (c .second)) 0 (omega (arith, group-long (c .first))) ∙ group-read (c .first) (m .first) in
@@ -137,7 +140,7 @@ module _ (ls : List ℕ) where
       (λ e. let l = ltb-true i m e in word-first (littersTo ls m) last (12 * i + d) (omega (arith, litters-long ls m)) ∙ among-litters m i d l k)
       (λ e. let q : i ≡ m = omega (arith, ltb-false i m e) in rw q (word-second (littersTo ls m) last (12 * m + d) d (omega (arith, litters-long ls m))))
 
-  among-totals : (n j : ℕ) → j < n → bothTotals (totalsTo ls n) (32 * j) ≡ bothTotals (countsBytes (countedTo ls (64 * suc j))) 0
+  among-totals : (n j : ℕ) → j < n → totalsOf (totalsTo ls n) (32 * j) ≡ totalsOf (countsBytes (countedTo ls (64 * suc j))) 0
   unfolding totalsTo
   among-totals zero j h = absurd (omega arith)
   among-totals (suc m) j h =
@@ -147,43 +150,24 @@ module _ (ls : List ℕ) where
       (λ e. let l = ltb-true j m e in both-first (totalsTo ls m) last (32 * j) (omega (arith, totals-long ls m)) ∙ among-totals m j l)
       (λ e. let q : j ≡ m = omega (arith, ltb-false j m e) in rw q (both-second (totalsTo ls m) last (32 * m) 0 (omega (arith, totals-long ls m))))
 
--- ---- valid litters
-
-each-valid : (ls : List ℕ) (k i m : ℕ) → validFrom ls k i ≡ true → i ≤ m → m < i + k → validLitter (successesAt ls m) (totalAt ls m) (groupAt ls m) ≡ true
-unfolding validFrom
-each-valid ls zero i m h l u = absurd (omega arith)
-each-valid ls (suc k) i m h l u =
-    let one = validLitter (successesAt ls i) (totalAt ls i) (groupAt ls i) in
-    cases
-    (ltb i m)
-    (λ e. each-valid ls k (i + 1) m (and-right one (validFrom ls k (i + 1)) h) (omega (arith, ltb-true i m e)) (omega arith))
-    (λ e. let q : i ≡ m = omega (arith, ltb-false i m e) in rw (← q) (and-left one (validFrom ls k (i + 1)) h))
-
--- the numbers of a valid litter
+-- the numbers of a valid litter are words
 pub record Small (s t g : ℕ) : Type 0 where
   pub successes : s < 0x1_0000_0000
   pub total : t < 0x1_0000_0000
   pub group : g < 0x1_0000_0000
 
-small : (s t g : ℕ) → validLitter s t g ≡ true → Small s t g
-unfolding validLitter
-small s t g h =
-    let rest = and-right (leb g 1) (leb 1 t && (leb t 1000 && leb s t)) h in
-    let last = and-right (leb 1 t) (leb t 1000 && leb s t) rest in
-    let x = leb-true t 1000 (and-left (leb t 1000) (leb s t) last) in
-    let y = leb-true s t (and-right (leb t 1000) (leb s t) last) in
-    let z = leb-true g 1 (and-left (leb g 1) (leb 1 t && (leb t 1000 && leb s t)) h) in
-    record { successes = omega arith; total = omega arith; group = omega arith }
+small : (s t g : ℕ) → validLitterOf s t g ≡ true → Small s t g
+small s t g h = let b = bounds s t g h in record { successes = omega arith; total = omega arith; group = omega arith }
 
 -- ---- the archive
 
-module _ (ls : List ℕ) (room : ℕ) (w : writable ls room ≡ true) where
+module _ (ls : List ℕ) (room : ℕ) (w : isWritableOf ls room ≡ true) where
   rest : (leb (countOf ls) 4096 && (leb (sizeOf (countOf ls)) room && validFrom ls (countOf ls) 0)) ≡ true
-  unfolding writable
+  unfolding isWritableOf
   rest = and-right (eqb (length ls % 3) 0) (leb (countOf ls) 4096 && (leb (sizeOf (countOf ls)) room && validFrom ls (countOf ls) 0)) w
 
   whole : length ls % 3 ≡ 0
-  unfolding writable
+  unfolding isWritableOf
   whole = eqb-true (length ls % 3) 0 (and-left (eqb (length ls % 3) 0) (leb (countOf ls) 4096 && (leb (sizeOf (countOf ls)) room && validFrom ls (countOf ls) 0)) w)
 
   few : countOf ls ≤ 4096
@@ -192,7 +176,7 @@ module _ (ls : List ℕ) (room : ℕ) (w : writable ls room ≡ true) where
   valid : validFrom ls (countOf ls) 0 ≡ true
   valid = and-right (leb (sizeOf (countOf ls)) room) (validFrom ls (countOf ls) 0) (and-right (leb (countOf ls) 4096) (leb (sizeOf (countOf ls)) room && validFrom ls (countOf ls) 0) rest)
 
-  at-valid : (i : ℕ) → i < countOf ls → validLitter (successesAt ls i) (totalAt ls i) (groupAt ls i) ≡ true
+  at-valid : (i : ℕ) → i < countOf ls → validLitterOf (successesAt ls i) (totalAt ls i) (groupAt ls i) ≡ true
   at-valid i h = each-valid ls (countOf ls) 0 i valid (omega arith) (omega arith)
 
   litter-word : (i d : ℕ) → i < countOf ls → d + 4 ≤ 12 → wordAt (archiveOf ls) (12 * i + d) ≡ wordAt (litterBytes (successesAt ls i) (totalAt ls i) (groupAt ls i)) d
@@ -218,7 +202,7 @@ module _ (ls : List ℕ) (room : ℕ) (w : writable ls room ≡ true) where
     same-litter : litterIn (archiveOf ls) i ≡ oneOf (successesAt ls i) (totalAt ls i) (groupAt ls i)
     same-litter = rw (same-successes, same-total, same-group)
 
-    same-valid : validIn (archiveOf ls) i ≡ true
+    same-valid : validOf (archiveOf ls) i ≡ true
     same-valid = rw (same-successes, same-total, same-group) (at-valid i h)
 
   same-counts : (i : ℕ) → i ≤ countOf ls → countsTo (archiveOf ls) i ≡ countedTo ls i
@@ -259,7 +243,7 @@ module _ (ls : List ℕ) (room : ℕ) (w : writable ls room ≡ true) where
 
   -- ---- the totals
 
-  some-totals : (j : ℕ) → j < countOf ls / 64 → totalsIn (archiveOf ls) (countOf ls) j ≡ bothTotals (countsBytes (countedTo ls (64 * suc j))) 0
+  some-totals : (j : ℕ) → j < countOf ls / 64 → totalsIn (archiveOf ls) (countOf ls) j ≡ totalsOf (countsBytes (countedTo ls (64 * suc j))) 0
   unfolding archiveOf totalsIn
   some-totals j h =
       both-second (littersTo ls (countOf ls)) (totalsTo ls (countOf ls / 64) ++ trailerBytes (countOf ls)) (12 * countOf ls + 32 * j) (32 * j) (omega (arith, litters-long ls (countOf ls))) ∙

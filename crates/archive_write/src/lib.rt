@@ -7,29 +7,13 @@ ghost use mathlib.Core.Path.{_≡_};
 ghost use Prim.Native.Nat.{_+_, _*_, _/_, _≤_, _<_};
 ghost use lib.ListN.{length};
 ghost use lib.Seq.{sets};
-ghost use Rattle.put.specs.Stored.{stored};
-ghost use Rattle.objective.specs.Litters.{countOf, validFrom};
+ghost use Rattle.store.specs.Stored.{stored};
+ghost use Rattle.litters.specs.Litters.{countOf};
 ghost use Rattle.archive.specs.Counts.{BothBelow};
-ghost use Rattle.archive_write.specs.Archive.{countedTo, littersTo, totalsTo, archiveOf, writable, written, writtenOf};
-
-fn all_valid(litters: &[u32]) -> bool
-    ensures { λ r. ⌜ r ≡ validFrom (now (litters .entry)) (countOf (now (litters .entry))) 0 ⌝ }
-{
-    let n = litters.len() / 3;
-    let mut i = 0;
-    while i < n {
-        let k = 3 * i;
-        let litter = [litters[k], litters[k + 1], litters[k + 2]];
-        if !objective::check::valid_litters(&litter) {
-            return false;
-        }
-        i += 1;
-    }
-    true
-}
+ghost use Rattle.archive_write.specs.Archive.{countedTo, littersTo, totalsTo, archiveOf, isWritableOf, written, writeOf};
 
 fn is_writable(litters: &[u32], room: usize) -> bool
-    ensures { λ r. ⌜ r ≡ writable (now (litters .entry)) room ⌝ }
+    ensures { λ r. ⌜ r ≡ isWritableOf (now (litters .entry)) room ⌝ }
 {
     let n = litters.len() / 3;
     if litters.len() % 3 != 0 {
@@ -41,7 +25,7 @@ fn is_writable(litters: &[u32], room: usize) -> bool
     if room < archive::size(n) {
         return false;
     }
-    all_valid(litters)
+    litters::valid::each_valid(litters)
 }
 
 fn put_litters(litters: &[u32], out: &mut [u8])
@@ -101,7 +85,7 @@ fn put_archive(litters: &[u32], out: &mut [u8])
 
 // Answers InvalidInput and writes nothing for litters that are not valid or too many, and for a short buffer. Bytes past the archive are kept.
 pub fn write(litters: &[u32], out: &mut [u8]) -> Outcome
-    ensures { λ r. ⌜ written r (now (out .exit)) ≡ writtenOf (now (litters .entry)) (now (out .entry)) ⌝ }
+    ensures { λ r. ⌜ written r (now (out .exit)) ≡ writeOf (now (litters .entry)) (now (out .entry)) ⌝ }
 {
     if !is_writable(litters, out.len()) {
         return Outcome::InvalidInput;

@@ -9,14 +9,15 @@ use lib.Ieee.{Float}
 use Rattle.objective.specs.declared.sum.Objective.{Objective}
 use Rattle.summary.specs.declared.Summary.{Summary}
 use Rattle.fit.specs.declared.report.Fit.{Fit}
-use Rattle.buffers.specs.Buffers.{given, fitRoom, fitGiven, objectiveRoom, objectiveGiven, summaryGiven}
+use Rattle.buffers.specs.Buffers.{fitRoomOf, fitGiven, objectiveRoomOf, objectiveGiven, summaryGiven}
+use Rattle.store.specs.Given.{given}
 
 module _ (counts : List ℕ) where
-  pub fit-unwritten : (f : Fit) (bounds numbers : List Float) → fitRoom (length bounds) (length numbers) (length counts) ≡ false → fitGiven f bounds numbers counts ≡ given 1 numbers counts
+  pub fit-unwritten : (f : Fit) (bounds numbers : List Float) → fitRoomOf (length bounds) (length numbers) (length counts) ≡ false → fitGiven f bounds numbers counts ≡ given 1 numbers counts
   unfolding fitGiven
   fit-unwritten f bounds numbers h = rw h
 
-  pub objective-unwritten : (o : Objective) (point numbers : List Float) → objectiveRoom (length point) (length numbers) (length counts) ≡ false → objectiveGiven o point numbers counts ≡ given 1 numbers counts
+  pub objective-unwritten : (o : Objective) (point numbers : List Float) → objectiveRoomOf (length point) (length numbers) (length counts) ≡ false → objectiveGiven o point numbers counts ≡ given 1 numbers counts
   unfolding objectiveGiven
   objective-unwritten o point numbers h = rw h
 

@@ -7,17 +7,18 @@ ghost use mathlib.Core.Bool.{cond};
 ghost use mathlib.Core.List.{[]};
 ghost use Prim.Native.Nat.{_≤_};
 ghost use lib.ListN.{length};
-ghost use Rattle.put.specs.Stored.{stored};
-ghost use Rattle.buffers.specs.Buffers.{given, fitRoom, firstNumbers, allNumbers, fitNumbers, fitCounts, fitPut, objectiveRoom, objectiveNumbers, objectiveCounts, objectivePut, summaryCounts, summaryPut};
+ghost use Rattle.store.specs.Stored.{stored};
+ghost use Rattle.buffers.specs.Buffers.{fitRoomOf, firstNumbersOf, allNumbersOf, fitNumbersOf, fitCountsOf, putFitOf, objectiveRoomOf, objectiveNumbersOf, objectiveCountsOf, putObjectiveOf, summaryCountsOf, putSummaryOf};
+ghost use Rattle.store.specs.Given.{given};
 
 pub fn fit_room(bounds: usize, numbers: usize, counts: usize) -> bool
-    ensures { λ r. ⌜ r ≡ fitRoom bounds numbers counts ⌝ }
+    ensures { λ r. ⌜ r ≡ fitRoomOf bounds numbers counts ⌝ }
 {
     num::both(bounds == 12, num::both(6 <= numbers, 10 <= counts))
 }
 
 fn first_numbers(f: Fit) -> [f64; 6]
-    ensures { λ r. ⌜ r ≡ firstNumbers f ⌝ }
+    ensures { λ r. ⌜ r ≡ firstNumbersOf f ⌝ }
 {
     let means = f.means;
     let sds = f.sds;
@@ -25,7 +26,7 @@ fn first_numbers(f: Fit) -> [f64; 6]
 }
 
 fn all_numbers(f: Fit) -> [f64; 28]
-    ensures { λ r. ⌜ r ≡ allNumbers f ⌝ }
+    ensures { λ r. ⌜ r ≡ allNumbersOf f ⌝ }
 {
     let means = f.means;
     let sds = f.sds;
@@ -67,15 +68,15 @@ fn all_numbers(f: Fit) -> [f64; 28]
 // A host built before the coordinates were reported lends six places, and has them filled as before.
 fn fit_numbers(f: Fit, numbers: &mut [f64])
     requires { ⌜ 6 ≤ length (now numbers) ⌝ }
-    ensures { λ r. ⌜ now (numbers .exit) ≡ stored (now (numbers .entry)) (fitNumbers f (length (now (numbers .entry)))) ⌝ }
+    ensures { λ r. ⌜ now (numbers .exit) ≡ stored (now (numbers .entry)) (fitNumbersOf f (length (now (numbers .entry)))) ⌝ }
 {
     if 28 <= numbers.len() {
         let all = all_numbers(f);
-        put::numbers(&all, numbers);
+        store::numbers(&all, numbers);
         return;
     }
     let first = first_numbers(f);
-    put::numbers(&first, numbers);
+    store::numbers(&first, numbers);
 }
 
 fn mark(on: bool) -> u64
@@ -85,7 +86,7 @@ fn mark(on: bool) -> u64
 }
 
 fn fit_counts(f: Fit) -> [u64; 10]
-    ensures { λ r. ⌜ r ≡ fitCounts f ⌝ }
+    ensures { λ r. ⌜ r ≡ fitCountsOf f ⌝ }
 {
     let status = f.status;
     let end = f.end;
@@ -106,28 +107,28 @@ fn fit_counts(f: Fit) -> [u64; 10]
 
 pub fn put_fit(f: Fit, numbers: &mut [f64], counts: &mut [u64]) -> u64
     requires { ⌜ (6 ≤ length (now numbers)) × (10 ≤ length (now counts)) ⌝ }
-    ensures { λ r. ⌜ given r (now (numbers .exit)) (now (counts .exit)) ≡ fitPut f (now (numbers .entry)) (now (counts .entry)) ⌝ }
+    ensures { λ r. ⌜ given r (now (numbers .exit)) (now (counts .exit)) ≡ putFitOf f (now (numbers .entry)) (now (counts .entry)) ⌝ }
 {
     let c = fit_counts(f);
     let end = f.end;
     fit_numbers(f, numbers);
-    put::counts(&c, counts);
+    store::counts(&c, counts);
     work::number(end)
 }
 
 pub fn objective_room(point: usize, numbers: usize, counts: usize) -> bool
-    ensures { λ r. ⌜ r ≡ objectiveRoom point numbers counts ⌝ }
+    ensures { λ r. ⌜ r ≡ objectiveRoomOf point numbers counts ⌝ }
 {
     num::both(point == 4, num::both(22 <= numbers, 2 <= counts))
 }
 
 pub fn objective_numbers(o: Objective) -> [f64; 22]
-    ensures { λ r. ⌜ r ≡ objectiveNumbers o ⌝ }
+    ensures { λ r. ⌜ r ≡ objectiveNumbersOf o ⌝ }
 {
-    let g = o.gradient;
-    let h = o.hessian;
+    let g = o.v.gradient;
+    let h = o.v.hessian;
     [
-        o.nll,
+        o.v.nll,
         g[0],
         g[1],
         g[2],
@@ -148,12 +149,12 @@ pub fn objective_numbers(o: Objective) -> [f64; 22]
         h[13],
         h[14],
         h[15],
-        o.refinement,
+        o.v.refinement,
     ]
 }
 
 fn objective_counts(o: Objective) -> [u64; 2]
-    ensures { λ r. ⌜ r ≡ objectiveCounts o ⌝ }
+    ensures { λ r. ⌜ r ≡ objectiveCountsOf o ⌝ }
 {
     let end = o.end;
     [o.used.0, work::reason(end)]
@@ -161,18 +162,18 @@ fn objective_counts(o: Objective) -> [u64; 2]
 
 pub fn put_objective(o: Objective, numbers: &mut [f64], counts: &mut [u64]) -> u64
     requires { ⌜ (22 ≤ length (now numbers)) × (2 ≤ length (now counts)) ⌝ }
-    ensures { λ r. ⌜ given r (now (numbers .exit)) (now (counts .exit)) ≡ objectivePut o (now (numbers .entry)) (now (counts .entry)) ⌝ }
+    ensures { λ r. ⌜ given r (now (numbers .exit)) (now (counts .exit)) ≡ putObjectiveOf o (now (numbers .entry)) (now (counts .entry)) ⌝ }
 {
     let n = objective_numbers(o);
     let c = objective_counts(o);
     let end = o.end;
-    put::numbers(&n, numbers);
-    put::counts(&c, counts);
+    store::numbers(&n, numbers);
+    store::counts(&c, counts);
     work::number(end)
 }
 
 fn summary_counts(s: Summary) -> [u64; 8]
-    ensures { λ r. ⌜ r ≡ summaryCounts s ⌝ }
+    ensures { λ r. ⌜ r ≡ summaryCountsOf s ⌝ }
 {
     let a = s.first;
     let b = s.second;
@@ -190,10 +191,10 @@ fn summary_counts(s: Summary) -> [u64; 8]
 
 pub fn put_summary(s: Summary, counts: &mut [u64]) -> u64
     requires { ⌜ 8 ≤ length (now counts) ⌝ }
-    ensures { λ r. ⌜ given r [] (now (counts .exit)) ≡ summaryPut s (now (counts .entry)) ⌝ }
+    ensures { λ r. ⌜ given r [] (now (counts .exit)) ≡ putSummaryOf s (now (counts .entry)) ⌝ }
 {
     let c = summary_counts(s);
     let end = s.end;
-    put::counts(&c, counts);
+    store::counts(&c, counts);
     work::number(end)
 }

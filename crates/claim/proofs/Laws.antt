@@ -6,27 +6,26 @@ use Prim.Native.Nat.{ℕ}
 use lib.Ieee.{Float, le}
 use Rattle.work.specs.Ended.{isRefused, reasonOf}
 use Rattle.objective.specs.declared.sum.Objective.{Objective}
-use Rattle.trial.specs.Judged.{normAt}
-use Rattle.drive.specs.Drive.{totalsIn}
-use Rattle.put.specs.Stored.{stored}
-use Rattle.buffers.specs.Buffers.{given}
+use Rattle.trial.specs.Judged.{normAtOf}
+use Rattle.store.specs.Stored.{stored}
+use Rattle.store.specs.Given.{given}
 use Rattle.claim.specs.declared.Vetted.{Vetted}
 use Rattle.claim.specs.declared.Verdict.the-variants.{Domain, LikelihoodDiffers, NormAbove}
-use Rattle.claim.specs.Claim.{numberOf, sameBits, refusalOf, acceptedOf, judgedOf}
-use Rattle.claim.specs.Give.{vettedNumbers, vettedCounts, vettedPut}
+use Rattle.claim.specs.Claim.{numberOf, sameBitsOf, refusalOf, acceptedOf, judgedOf}
+use Rattle.claim.specs.Give.{vettedNumbersOf, vettedCountsOf, putVettedOf}
 
 module _ (lo hi : List Float) (tolerance : Float) (x : List Float) (claimed : Float) (o : Objective) (b : Bool) (e : b ≡ isRefused (o .end)) where
   pub judged-domain : (n : ℕ) (v : Vetted) → b ≡ true → n ≡ reasonOf (o .end) → v ≡ refusalOf (Domain n) (o .used .0) → v ≡ judgedOf lo hi tolerance x claimed o
   unfolding judgedOf
   judged-domain n v t f u = rw (← e, t, ← f) u
 
-  module _ (t : b ≡ false) (s : Bool) (f : s ≡ sameBits (o .nll) claimed) where
+  module _ (t : b ≡ false) (s : Bool) (f : s ≡ sameBitsOf (o .v .nll) claimed) where
     pub judged-differs : (v : Vetted) → s ≡ false → v ≡ refusalOf LikelihoodDiffers (o .used .0) → v ≡ judgedOf lo hi tolerance x claimed o
     unfolding judgedOf
     judged-differs v g u = rw (← e, t, ← f, g) u
 
-    module _ (g : s ≡ true) (m : Float) (h : m ≡ normAt lo hi x (totalsIn o)) where
-      pub judged-accepts : le m tolerance ≡ true → acceptedOf (o .used .0) (o .nll) m ≡ judgedOf lo hi tolerance x claimed o
+    module _ (g : s ≡ true) (m : Float) (h : m ≡ normAtOf lo hi x (o .v)) where
+      pub judged-accepts : le m tolerance ≡ true → acceptedOf (o .used .0) (o .v .nll) m ≡ judgedOf lo hi tolerance x claimed o
       unfolding judgedOf
       judged-accepts k = rw (← e, t, ← f, g, ← h, k)
 
@@ -34,6 +33,6 @@ module _ (lo hi : List Float) (tolerance : Float) (x : List Float) (claimed : Fl
       unfolding judgedOf
       judged-above v k u = rw (← e, t, ← f, g, ← h, k) u
 
-pub put-vetted-is : (a : Vetted) (l m v : List Float) (c d w : List ℕ) (r : ℕ) → v ≡ vettedNumbers a → w ≡ vettedCounts a → m ≡ stored l v → d ≡ stored c w → r ≡ numberOf (a .verdict) → given r m d ≡ vettedPut a l c
-unfolding vettedPut
+pub put-vetted-is : (a : Vetted) (l m v : List Float) (c d w : List ℕ) (r : ℕ) → v ≡ vettedNumbersOf a → w ≡ vettedCountsOf a → m ≡ stored l v → d ≡ stored c w → r ≡ numberOf (a .verdict) → given r m d ≡ putVettedOf a l c
+unfolding putVettedOf
 put-vetted-is a l m v c d w r e b p q h = rw (p, q, h, e, b)

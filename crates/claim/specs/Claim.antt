@@ -9,8 +9,7 @@ use Rattle.num.specs.F64.{bitsOf, zero·}
 use Rattle.work.specs.Ended.{isRefused}
 use Rattle.work.specs.Ended as ending
 use Rattle.objective.specs.declared.sum.Objective.{Objective}
-use Rattle.trial.specs.Judged.{normAt}
-use Rattle.drive.specs.Drive.{totalsIn}
+use Rattle.trial.specs.Judged.{normAtOf}
 use Rattle.claim.specs.declared.Claim.{Claim}
 use Rattle.claim.specs.declared.Verdict.{Verdict}
 use Rattle.claim.specs.declared.Verdict.the-variants.{Accepted, InvalidInput, Domain, OutsideBox, LikelihoodDiffers, NormAbove}
@@ -42,18 +41,18 @@ abbrev pub pointIn : Claim → List Float
 pointIn c = getD (c .means) 0 nan ∷ getD (c .means) 1 nan ∷ getD (c .variances) 0 nan ∷ getD (c .variances) 1 nan ∷ []
 
 -- A coordinate is compared as a number: its box has its ends, -0 lies at +0, and a NaN is outside.
-abbrev pub within : Float → Float → Float → Bool
-within x lo hi = le lo x && le x hi
+abbrev pub withinOf : Float → Float → Float → Bool
+withinOf x lo hi = le lo x && le x hi
 
 abbrev withinAt : List Float → List Float → List Float → ℕ → Bool
-withinAt x lo hi i = within (getD x i nan) (getD lo i nan) (getD hi i nan)
+withinAt x lo hi i = withinOf (getD x i nan) (getD lo i nan) (getD hi i nan)
 
-unfoldable pub boxed : List Float → List Float → List Float → Bool
-boxed x lo hi = let at = withinAt x lo hi in at 0 && (at 1 && (at 2 && at 3))
+unfoldable pub inBoxOf : List Float → List Float → List Float → Bool
+inBoxOf x lo hi = let at = withinAt x lo hi in at 0 && (at 1 && (at 2 && at 3))
 
 -- A likelihood is compared by its bits: -0 and +0 differ, and any NaN, which has the bits 7ff8000000000000 here, is the same as any other.
-unfoldable pub sameBits : Float → Float → Bool
-sameBits a b = eqb (bitsOf a) (bitsOf b)
+unfoldable pub sameBitsOf : Float → Float → Bool
+sameBitsOf a b = eqb (bitsOf a) (bitsOf b)
 
 -- a refusal: its verdict and its count, and zeros
 abbrev pub refusalOf : Verdict → ℕ → Vetted
@@ -65,8 +64,8 @@ acceptedOf used nll norm = record { verdict = Accepted; used = record { 0 = used
 -- By the objective o at x: its own refusal, then the likelihood, then the norm that the fit stops by.
 unfoldable pub judgedOf : List Float → List Float → Float → List Float → Float → Objective → Vetted
 judgedOf lo hi tolerance x claimed o =
-    let norm = normAt lo hi x (totalsIn o) in
+    let norm = normAtOf lo hi x (o .v) in
     cond (isRefused (o .end)) (refusalOf (Domain (ending.reasonOf (o .end))) (o .used .0))
-    (cond (sameBits (o .nll) claimed)
-    (cond (le norm tolerance) (acceptedOf (o .used .0) (o .nll) norm) (refusalOf NormAbove (o .used .0)))
+    (cond (sameBitsOf (o .v .nll) claimed)
+    (cond (le norm tolerance) (acceptedOf (o .used .0) (o .v .nll) norm) (refusalOf NormAbove (o .used .0)))
     (refusalOf LikelihoodDiffers (o .used .0)))

@@ -2,9 +2,8 @@
 use objective::Objective;
 use work::QuadratureEvaluations;
 ghost use mathlib.Core.Path.{_≡_};
-ghost use Rattle.trial.specs.Judged.{normAt};
-ghost use Rattle.drive.specs.Drive.{totalsIn};
-ghost use Rattle.claim.specs.Claim.{numberOf, reasonOf, pointIn, within as Claim·within, boxed, sameBits, refusalOf, judgedOf};
+ghost use Rattle.trial.specs.Judged.{normAtOf};
+ghost use Rattle.claim.specs.Claim.{numberOf, reasonOf, pointIn, withinOf, inBoxOf, sameBitsOf, refusalOf, judgedOf};
 
 pub mod give;
 
@@ -67,14 +66,14 @@ pub fn point(c: Claim) -> [f64; 4]
 }
 
 fn within(x: f64, lo: f64, hi: f64) -> bool
-    ensures { λ r. ⌜ r ≡ Claim·within x lo hi ⌝ }
+    ensures { λ r. ⌜ r ≡ withinOf x lo hi ⌝ }
 {
     num::both(lo <= x, x <= hi)
 }
 
 // As numbers: the ends are inside, -0 lies at +0, and a NaN is outside.
 pub fn in_box(x: [f64; 4], lo: [f64; 4], hi: [f64; 4]) -> bool
-    ensures { λ r. ⌜ r ≡ boxed x lo hi ⌝ }
+    ensures { λ r. ⌜ r ≡ inBoxOf x lo hi ⌝ }
 {
     let a = within(x[0], lo[0], hi[0]);
     let b = within(x[1], lo[1], hi[1]);
@@ -85,7 +84,7 @@ pub fn in_box(x: [f64; 4], lo: [f64; 4], hi: [f64; 4]) -> bool
 
 // By their bits: -0 and +0 differ, and any NaN is the same as any other.
 fn same_bits(a: f64, b: f64) -> bool
-    ensures { λ r. ⌜ r ≡ sameBits a b ⌝ }
+    ensures { λ r. ⌜ r ≡ sameBitsOf a b ⌝ }
 {
     let p = print::bits(a);
     let q = print::bits(b);
@@ -93,9 +92,9 @@ fn same_bits(a: f64, b: f64) -> bool
 }
 
 fn norm_at(lo: [f64; 4], hi: [f64; 4], x: [f64; 4], o: Objective) -> f64
-    ensures { λ r. ⌜ r ≡ normAt lo hi x (totalsIn o) ⌝ }
+    ensures { λ r. ⌜ r ≡ normAtOf lo hi x (o .v) ⌝ }
 {
-    let gradient = o.gradient;
+    let gradient = o.v.gradient;
     let inward = step::project(x, gradient, lo, hi);
     step::norm(inward)
 }
@@ -127,7 +126,7 @@ pub fn judged(
     if work::refused(end) {
         return refusal(Verdict::Domain(work::reason(end)), used);
     }
-    if !same_bits(o.nll, claimed) {
+    if !same_bits(o.v.nll, claimed) {
         return refusal(Verdict::LikelihoodDiffers, used);
     }
     let norm = norm_at(lo, hi, x, o);
@@ -135,7 +134,7 @@ pub fn judged(
         return Vetted {
             verdict: Verdict::Accepted,
             used,
-            nll: o.nll,
+            nll: o.v.nll,
             norm,
         };
     }

@@ -9,38 +9,38 @@ use borrow.Author.Tests.{lt-ltb, le-ltb, not-true, not-false}
 use lib.Dec.{eqb, lit<, lit≤}
 use lib.ListN.{length, take, drop, getD, drop-of-length-le}
 use lib.Seq.{drop-cons, getD-take}
-use Rattle.form.specs.Form.{holes}
-use Rattle.form.specs.Read.{Reading, done, departsAt, read}
-use Rattle.form.specs.declared.read.Values.{Values}
-use Rattle.form.specs.Says.{valuesOf, saidOf}
-use Rattle.form.specs.Said.{said}
+use Rattle.template.specs.Template.{holes}
+use Rattle.template.specs.Read.{Reading, done, departsAt, read}
+use Rattle.template.specs.declared.read.Values.{Values}
+use Rattle.template.specs.Says.{valuesOf, saidOf}
+use Rattle.template.specs.Said.{said}
 use Rattle.read.specs.declared.Asking.{Asking}
 use Rattle.read.specs.Request.{Asked, asked, form, isEmpty, renderLitters, readRequest}
 use Rattle.read.specs.BothWays.{SpellsRequest, read-exactly, lastLine, parts-long, litters-some, nothing-left, something-left}
 use Rattle.read.specs.Rows.{fillRequest, askingOf}
 use Rattle.claimed.specs.declared.Claiming.{Claiming}
 use Rattle.claimed.specs.declared.Lines.{Lines}
-use Rattle.claimed.specs.Claimed.{claim, claimAt, readClaim, readBehind, readClaimed}
+use Rattle.claimed.specs.Claimed.{claim, claimAtOf, readClaim, readBehind, readClaimed}
 use Rattle.claimed.specs.Claiming.{five, behindOf, departedOf, heldOf, joinedOf, claimingOf, fillClaimed}
 
 -- ---- where the claim begins: at place i, after the byte `last`; w is the whole
-pub claim-start : (text : List ℕ) → claimAt 10 text ≡ 0 + claimAt 10 (drop 0 text)
+pub claim-start : (text : List ℕ) → claimAtOf 10 text ≡ 0 + claimAtOf 10 (drop 0 text)
 claim-start text = omega arith
 
-module _ (text : List ℕ) (i last w : ℕ) (inv : w ≡ i + claimAt last (drop i text)) where
+module _ (text : List ℕ) (i last w : ℕ) (inv : w ≡ i + claimAtOf last (drop i text)) where
   pub claim-nowhere : length text ≤ i → i ≤ length text → length text ≡ w
-  unfolding claimAt
+  unfolding claimAtOf
   claim-nowhere h g = let k = rw (drop-of-length-le text h) at inv in omega arith
 
   module _ (t : Bool) (h : i < length text) (e : t ≡ (eqb last 10 && eqb (getD text i 0) 99)) where
-    here : claimAt last (drop i text) ≡ cond t 0 (suc (claimAt (getD text i 0) (drop (suc i) text)))
-    unfolding claimAt
+    here : claimAtOf last (drop i text) ≡ cond t 0 (suc (claimAtOf (getD text i 0) (drop (suc i) text)))
+    unfolding claimAtOf
     here = rw (drop-cons text i 0 h, e)
 
     pub claim-here : t ≡ true → i ≡ w
     claim-here f = let k = rw (here, f) at inv in omega arith
 
-    pub claim-later : t ≡ false → w ≡ i + 1 + claimAt (getD text i 0) (drop (i + 1) text)
+    pub claim-later : t ≡ false → w ≡ i + 1 + claimAtOf (getD text i 0) (drop (i + 1) text)
     claim-later f = let z : i + 1 ≡ suc i = omega arith in let k = rw (here, f) at inv in rw z (omega arith)
 
 -- ---- the claim's lines
@@ -117,7 +117,7 @@ module _ (buf text : List ℕ) where
   unfolding readClaimed fillClaimed
   too-long h = (rw (lt-ltb 8192 (length text) h), rw (lt-ltb 8192 (length text) h))
 
-  module _ (h : length text ≤ 8192) (k : ℕ) (c : k ≡ claimAt 10 text) (a : Asking) (e : a ≡ askingOf 0 (readRequest (take k text))) where
+  module _ (h : length text ≤ 8192) (k : ℕ) (c : k ≡ claimAtOf 10 text) (a : Asking) (e : a ≡ askingOf 0 (readRequest (take k text))) where
     pub filled : (out : List ℕ) → out ≡ fillRequest buf (take k text) → out ≡ fillClaimed buf text
     unfolding fillClaimed
     filled out o = rw (le-ltb 8192 (length text) h, ← c) o

@@ -4,8 +4,8 @@ use mathlib.Core.List.{List, [], _∷_}
 use Prim.Native.Nat.{ℕ, suc, _+_}
 use lib.Dec.{ltb, eqb}
 use lib.ListN.{length, take, drop}
-use Rattle.form.specs.Form.{ascii}
-use Rattle.form.specs.Read.{Reading, done, departsAt, read}
+use Rattle.template.specs.Template.{ascii}
+use Rattle.template.specs.Read.{Reading, done, departsAt, read}
 use Rattle.read.specs.Request.{Asked, asked, form, isEmpty, readRequest}
 
 -- Three lines: two means, two variances, minus the log-likelihood.
@@ -18,9 +18,9 @@ pub data Claims : Type 0 where
   departed : ℕ → Claims
 
 -- The claim begins at the first line that begins with a `c`, as no line of a request does; else at the end. `last` is the byte before, an LF at the start.
-unfoldable pub claimAt : ℕ → List ℕ → ℕ
-claimAt last [] = 0
-claimAt last (c ∷ s) = cond (eqb last 10 && eqb c 99) 0 (suc (claimAt c s))
+unfoldable pub claimAtOf : ℕ → List ℕ → ℕ
+claimAtOf last [] = 0
+claimAtOf last (c ∷ s) = cond (eqb last 10 && eqb c 99) 0 (suc (claimAtOf c s))
 
 -- nothing follows the claim, which stands behind eight lines and those of its litters
 abbrev pub readClaim : List ℕ → List (List ℕ) → Reading → Claims
@@ -34,4 +34,4 @@ readBehind s (asked vs ls) = readClaim vs ls (read claim (9 + length ls) s)
 
 -- 0 for too many bytes
 unfoldable pub readClaimed : List ℕ → Claims
-readClaimed text = cond (ltb 8192 (length text)) (departed 0) (readBehind (drop (claimAt 10 text) text) (readRequest (take (claimAt 10 text) text)))
+readClaimed text = cond (ltb 8192 (length text)) (departed 0) (readBehind (drop (claimAtOf 10 text) text) (readRequest (take (claimAtOf 10 text) text)))

@@ -7,14 +7,14 @@ use native.Mathlib.Omega.{arith}
 use borrow.Table.Steps.{cases}
 use lib.Dec.{ltb}
 use lib.ListN.{length, take, drop, getD, replicate}
-use Rattle.form.specs.Read.{Reading, done, departsAt, read}
+use Rattle.template.specs.Read.{Reading, done, departsAt, read}
 use Rattle.read.specs.declared.Asking.{Asking}
 use Rattle.read.specs.Request.{Asked, asked, form, isEmpty, readRequest}
 use Rattle.read.specs.Rows.{putLitters, fillRequest}
 use Rattle.read.specs.Filled.{request-filled}
 use Rattle.claimed.specs.declared.Claiming.{Claiming}
 use Rattle.claimed.specs.declared.Lines.{Lines}
-use Rattle.claimed.specs.Claimed.{Claims, claims, departed, claim, claimAt, readClaim, readBehind, readClaimed}
+use Rattle.claimed.specs.Claimed.{Claims, claims, departed, claim, claimAtOf, readClaim, readBehind, readClaimed}
 
 abbrev pub five : List ℕ → List ℕ
 five us = getD us 0 0 ∷ getD us 1 0 ∷ getD us 2 0 ∷ getD us 3 0 ∷ getD us 4 0 ∷ []
@@ -43,7 +43,7 @@ claimingOf (departed k) = departedOf k
 claimingOf (claims vs ls us) = heldOf (length ls) vs (five us)
 
 unfoldable pub fillClaimed : List ℕ → List ℕ → List ℕ
-fillClaimed b text = cond (ltb 8192 (length text)) b (fillRequest b (take (claimAt 10 text) text))
+fillClaimed b text = cond (ltb 8192 (length text)) b (fillRequest b (take (claimAtOf 10 text) text))
 
 -- ---- where a text has the form, the buffer holds its litters
 
@@ -62,10 +62,10 @@ unfolding readClaimed fillClaimed
 claimed-filled b text vs ls us e =
     cases (ltb 8192 (length text))
     (λ x. absurd (not-claims 0 vs ls us (rw x at e)))
-    (λ x. rw x (by-asked (readRequest (take (claimAt 10 text) text)) refl (rw x at e)))
+    (λ x. rw x (by-asked (readRequest (take (claimAtOf 10 text) text)) refl (rw x at e)))
   where
-    by-asked : (q : Asked) → readRequest (take (claimAt 10 text) text) ≡ q → readBehind (drop (claimAt 10 text) text) q ≡ claims vs ls us → fillRequest b (take (claimAt 10 text) text) ≡ putLitters b 0 ls
+    by-asked : (q : Asked) → readRequest (take (claimAtOf 10 text) text) ≡ q → readBehind (drop (claimAtOf 10 text) text) q ≡ claims vs ls us → fillRequest b (take (claimAtOf 10 text) text) ≡ putLitters b 0 ls
     by-asked (form k) h f = absurd (not-claims k vs ls us f)
     by-asked (asked ws ks) h f =
-        let z = same-litters vs ws us ls ks (read claim (9 + length ks) (drop (claimAt 10 text) text)) f in
-        rw (← z) (request-filled b (take (claimAt 10 text) text) ws ks h)
+        let z = same-litters vs ws us ls ks (read claim (9 + length ks) (drop (claimAtOf 10 text) text)) f in
+        rw (← z) (request-filled b (take (claimAtOf 10 text) text) ws ks h)

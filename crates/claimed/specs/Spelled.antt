@@ -11,17 +11,17 @@ use borrow.Table.Steps.{cases}
 use lib.Dec.{T, ltb, eqb}
 use lib.ListN.{length, take, drop, length-append, take-append-drop}
 use lib.Seq.{take-at, drop-append-seam}
-use Rattle.form.specs.Form.{first, isCount, isBits, isHole, render}
-use Rattle.form.specs.Field.{readByte}
-use Rattle.form.specs.Read.{Reading, done, departsAt, feeds, readField, read}
-use Rattle.form.specs.Sound.{sound, Holds}
-use Rattle.form.specs.Digits.{decimal}
-use Rattle.form.specs.Spells.{Spelling, Spells, ended, a-count, a-number, a-byte}
-use Rattle.form.specs.BothWays.{not-done, spelled-read, read-spelled, render-spells}
-use Rattle.form.specs.Feeds.{feeds-append, spells-feeds}
-use Rattle.read.specs.Request.{head, litter, rows, Asked, asked, form, isEmpty, renderLitters, readRequest}
+use Rattle.template.specs.Template.{first, isCount, isBits, isHoleOf, render}
+use Rattle.template.specs.Field.{readByte}
+use Rattle.template.specs.Read.{Reading, done, departsAt, feeds, readField, read}
+use Rattle.template.specs.Sound.{sound, Holds}
+use Rattle.template.specs.Digits.{decimal}
+use Rattle.template.specs.Spells.{Spelling, Spells, ended, a-count, a-number, a-byte}
+use Rattle.template.specs.BothWays.{not-done, spelled-read, read-spelled, render-spells}
+use Rattle.template.specs.Feeds.{feeds-append, spells-feeds}
+use Rattle.read.specs.Request.{head, litter, closing, Asked, asked, form, isEmpty, renderLitters, readRequest}
 use Rattle.read.specs.BothWays.{EachHolds, lastLine, SpellsRequest, last-holds, parts-long, litters-some, head-some, request-read-back, read-is-spelled, is-empty}
-use Rattle.claimed.specs.Claimed.{Claims, claims, departed, claim, claimAt, readClaim, readBehind, readClaimed}
+use Rattle.claimed.specs.Claimed.{Claims, claims, departed, claim, claimAtOf, readClaim, readBehind, readClaimed}
 use Rattle.claimed.specs.Claiming.{not-claims}
 
 -- ---- lists without a line that begins with a `c`, behind the byte `last`; and the byte that stands before what follows
@@ -42,9 +42,9 @@ last-append : (last : ℕ) (a b : List ℕ) → lastOf last (a ++ b) ≡ lastOf 
 last-append last [] b = refl
 last-append last (c ∷ a) b = last-append c a b
 
-passed : (last : ℕ) (s t : List ℕ) → Clean last s → claimAt last (s ++ t) ≡ length s + claimAt (lastOf last s) t
-unfolding claimAt
-passed last [] t h = sym (zero-add (claimAt last t))
+passed : (last : ℕ) (s t : List ℕ) → Clean last s → claimAtOf last (s ++ t) ≡ length s + claimAtOf (lastOf last s) t
+unfolding claimAtOf
+passed last [] t h = sym (zero-add (claimAtOf last t))
 passed last (c ∷ s) t h = rw (h .0, passed c s t (h .1)) (omega arith)
 
 -- what is known of a text before which the byte `last` stands, and that ends a line or not
@@ -66,11 +66,11 @@ quiet last (c ∷ s) e f =
     let g = quiet c s (let z = rw b at e in omega arith) b in
     record { clean = (rw f, g .clean); begins = g .begins })
 
--- ---- a form: no hole and no `c` at the start of a line
+-- ---- a template: no hole and no `c` at the start of a line
 
 abbrev tidy : Bool → List ℕ → Bool
 tidy fresh [] = true
-tidy fresh (c ∷ f) = not (fresh && (isHole c || eqb c 99)) && tidy (eqb c 10) f
+tidy fresh (c ∷ f) = not (fresh && (isHoleOf c || eqb c 99)) && tidy (eqb c 10) f
 
 abbrev leaves : Bool → List ℕ → Bool
 leaves fresh [] = fresh
@@ -99,8 +99,8 @@ spells-tidy (a-number {f = f} {s = s} v q b p k) last fresh e h =
     let g = quiet last q (number-feeds v q b) (e ∙ hole-follows fresh (t .0)) in
     rw p (both last q s false (leaves false f) g (spells-tidy k (lastOf last q) false (g .begins) (t .1)))
 spells-tidy (a-byte {f = f} {s = s} c p q w k) last fresh e h =
-    let t = and-eq-true-iff (not (fresh && (isHole c || eqb c 99))) (tidy (eqb c 10) f) .0 h in
-    let u = rw (p, q) at (not-true (fresh && (isHole c || eqb c 99)) (t .0)) in
+    let t = and-eq-true-iff (not (fresh && (isHoleOf c || eqb c 99))) (tidy (eqb c 10) f) .0 h in
+    let u = rw (p, q) at (not-true (fresh && (isHoleOf c || eqb c 99)) (t .0)) in
     let g = spells-tidy k c (eqb c 10) refl (t .1) in
     rw w (record { clean = (rw e u, g .clean); begins = g .begins })
 
@@ -114,9 +114,9 @@ litter-tidy : (tidy true litter ≡ true) × (leaves true litter ≡ true)
 unfolding litter
 litter-tidy = (refl, refl)
 
-rows-tidy : (tidy true rows ≡ true) × (leaves true rows ≡ true)
-unfolding rows
-rows-tidy = (refl, refl)
+closing-tidy : (tidy true closing ≡ true) × (leaves true closing ≡ true)
+unfolding closing
+closing-tidy = (refl, refl)
 
 line-ends : (f vs s : List ℕ) → (tidy true f ≡ true) × (leaves true f ≡ true) → Spells f vs s → (last : ℕ) → eqb last 10 ≡ true → Ends last s true
 line-ends f vs s t k last e = rw (t .1) at (spells-tidy k last true e (t .0))
@@ -138,7 +138,7 @@ request-ends text vs ls a h =
     let p = line-ends head vs top head-tidy (a .heads) 10 refl in
     let q = litters-end ls (a .litters) (lastOf 10 top) (p .begins) in
     let us = length ls ∷ length top ∷ [] in
-    let r = line-ends rows us end rows-tidy (render-spells rows us (last-holds (length ls) (length top) (omega arith) (omega arith))) (lastOf (lastOf 10 top) lines) (q .begins) in
+    let r = line-ends closing us end closing-tidy (render-spells closing us (last-holds (length ls) (length top) (omega arith) (omega arith))) (lastOf (lastOf 10 top) lines) (q .begins) in
     rw (a .is) (both 10 top (lines ++ end) true true p (both (lastOf 10 top) lines end true true q r))
 
 -- ---- the claim
@@ -147,12 +147,12 @@ claim-sound : T (sound claim)
 unfolding sound claim
 claim-sound = tt
 
-begun : (f : List ℕ) (line : ℕ) (s us t : List ℕ) (last : ℕ) → eqb last 10 ≡ true → read (99 ∷ f) line s ≡ done us t → claimAt last s ≡ 0
-unfolding claimAt read readField readByte
+begun : (f : List ℕ) (line : ℕ) (s us t : List ℕ) (last : ℕ) → eqb last 10 ≡ true → read (99 ∷ f) line s ≡ done us t → claimAtOf last s ≡ 0
+unfolding claimAtOf read readField readByte
 begun f line [] us t last e h = refl
 begun f line (d ∷ s) us t last e h = cases (eqb d 99) (λ b. rw (e, b)) (λ b. absurd (not-done line us t (rw b at h)))
 
-claim-begins : (line : ℕ) (s us t : List ℕ) (last : ℕ) → eqb last 10 ≡ true → read claim line s ≡ done us t → claimAt last s ≡ 0
+claim-begins : (line : ℕ) (s us t : List ℕ) (last : ℕ) → eqb last 10 ≡ true → read claim line s ≡ done us t → claimAtOf last s ≡ 0
 unfolding claim
 claim-begins line s us t last e h = begun _ line s us t last e h
 
@@ -173,7 +173,7 @@ claimed-read-back text vs ls us a h =
     let e = request-ends r vs ls (a .asks) m in
     let c : read claim (9 + length ls) s ≡ done us [] = rw (append-nil s) at (read-spelled (9 + length ls) [] claim-sound (a .claims)) in
     let z = claim-begins (9 + length ls) s us [] (lastOf 10 r) (e .begins) c in
-    let k : claimAt 10 text ≡ length r = ap (claimAt 10) (a .is) ∙ passed 10 r s (e .clean) ∙ rw z (add-zero (length r)) in
+    let k : claimAtOf 10 text ≡ length r = ap (claimAtOf 10) (a .is) ∙ passed 10 r s (e .clean) ∙ rw z (add-zero (length r)) in
     let t : take (length r) text ≡ r = ap (take (length r)) (a .is) ∙ take-at r s (length r) refl in
     let d : drop (length r) text ≡ s = ap (drop (length r)) (a .is) ∙ drop-append-seam r s in
     rw (le-ltb 8192 (length text) h, k, t, d, request-read-back r vs ls (a .asks) m, c)
@@ -197,12 +197,12 @@ unfolding readClaimed
 claimed-is-spelled text vs ls us e =
     cases (ltb 8192 (length text))
     (λ b. absurd (not-claims 0 vs ls us (rw b at e)))
-    (λ b. (by-asked (readRequest (take (claimAt 10 text) text)) refl (rw b at e), ltb-false 8192 (length text) b))
+    (λ b. (by-asked (readRequest (take (claimAtOf 10 text) text)) refl (rw b at e), ltb-false 8192 (length text) b))
   where
-    by-asked : (q : Asked) → readRequest (take (claimAt 10 text) text) ≡ q → readBehind (drop (claimAt 10 text) text) q ≡ claims vs ls us → SpellsClaimed vs ls us text
+    by-asked : (q : Asked) → readRequest (take (claimAtOf 10 text) text) ≡ q → readBehind (drop (claimAtOf 10 text) text) q ≡ claims vs ls us → SpellsClaimed vs ls us text
     by-asked (form k) h f = absurd (not-claims k vs ls us f)
     by-asked (asked ws ks) h f =
-        let k = claimAt 10 text in
+        let k = claimAtOf 10 text in
         let c = claim-is vs ws us (drop k text) ls ks (read claim (9 + length ks) (drop k text)) refl f in
         record { request = take k text; lines = drop k text; asks = rw (← (c .0), ← (c .1)) (read-is-spelled (take k text) ws ks h); claims = c .2; is = sym (take-append-drop k text) }
 

@@ -5,8 +5,8 @@ ghost use mathlib.Core.Bool.{_&&_};
 ghost use Prim.Native.Nat.{_+_, _≤_};
 ghost use lib.Dec.{eqb};
 ghost use lib.ListN.{length, drop};
-ghost use Rattle.form.specs.Read.{read as Form·read};
-ghost use Rattle.claimed.specs.Claimed.{claim as Claimed·claim, claimAt, readClaimed};
+ghost use Rattle.template.specs.Read.{read as Template·read};
+ghost use Rattle.claimed.specs.Claimed.{claim as Claimed·claim, claimAtOf, readClaimed};
 ghost use Rattle.claimed.specs.Claiming.{behindOf, departedOf, joinedOf, claimingOf, fillClaimed};
 
 // `count`, `values` and `claim` are what the text says where it has the form; else `line` is the line at which it departs, beside zeros.
@@ -33,7 +33,7 @@ fn begins(last: u8, c: u8) -> bool
 
 // Where the claim begins: at the first line that begins with a `c`, else at the end.
 fn claim_at(text: &[u8]) -> usize
-    ensures { λ r. ⌜ (r ≡ claimAt 10 (now (text .entry))) × (r ≤ length (now (text .entry))) ⌝ }
+    ensures { λ r. ⌜ (r ≡ claimAtOf 10 (now (text .entry))) × (r ≤ length (now (text .entry))) ⌝ }
 {
     let mut last: u8 = 10;
     for i in 0..text.len() {
@@ -49,10 +49,10 @@ fn claim_at(text: &[u8]) -> usize
 // The lines from `at` on, after a request of n litters.
 fn behind(text: &[u8], at: usize, n: u64) -> Lines
     requires { ⌜ (at ≤ length (now text)) × (n ≤ 8192) ⌝ }
-    ensures { λ r. ⌜ r ≡ behindOf n (Form·read Claimed·claim (9 + n) (drop at (now (text .entry)))) ⌝ }
+    ensures { λ r. ⌜ r ≡ behindOf n (Template·read Claimed·claim (9 + n) (drop at (now (text .entry)))) ⌝ }
 {
     let line = 9 + n;
-    let r = form::read::read(
+    let r = template::read::read(
         text,
         at,
         b"claim mean % %\nclaim variance % %\nclaim nll %\n",

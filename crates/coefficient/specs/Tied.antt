@@ -15,22 +15,9 @@ use lib.Ieee.Nearest.{div-same}
 use lib.Ieee.Bits.{ofBits-toBits}
 use Rattle.num.specs.F64.{zero·}
 use Rattle.num.specs.Helpers.{maxOf, minOf}
+use Rattle.order.specs.Zeros.{one-number}
 
 ruleset tests = (arith, ltb-true, ltb-false)
-
--- equal sizes with one sign
-module _ (s : Bool) (m n : ℕ) (e d : ℤ) (same : m * up e * down d ≡ n * up d * down e) where
-  in-units : m * up e * 2 ^ low binary64 / down e ≡ n * up d * 2 ^ low binary64 / down d
-  in-units =
-      div-same (m * up e * 2 ^ low binary64) (down e) (n * up d * 2 ^ low binary64) (down d) (down-pos e) (down-pos d)
-      (mul-right-comm (m * up e) (2 ^ low binary64) (down d) ∙ ap (λ x. x * 2 ^ low binary64) same ∙ mul-right-comm (n * up d) (down e) (2 ^ low binary64))
-
-  same-bits : toBits binary64 (fin s m e) ≡ toBits binary64 (fin s n d)
-  unfolding toBits
-  same-bits = rw in-units
-
-  one-number : T (fits binary64 (fin s m e)) → T (fits binary64 (fin s n d)) → fin s m e ≡ fin s n d
-  one-number h k = sym (ofBits-toBits binary64 (fin s m e) h) ∙ ap (λ b. ofBits binary64 b) same-bits ∙ ofBits-toBits binary64 (fin s n d) k
 
 first-zero : (a b : ℕ) → 0 < b → a * b ≤ 0 → a ≡ 0
 first-zero a b p h =

@@ -13,15 +13,15 @@ use Rattle.elementary.specs.Erfc.{erfcOf}
 use Rattle.lanes.specs.Lanes.{values, nth, expsOf, logsOf}
 use Rattle.lanes.specs.Filled.{at-place, same-values, own-values}
 use Rattle.normal.specs.declared.mills.LogMills.{LogMills}
-use Rattle.normal.specs.Normal.{logPhi, sqrt-two, fractionOf, normalTail}
-use Rattle.normal.specs.Twins.{byCdf}
+use Rattle.normal.specs.Normal.{logPhiOf, sqrt-two, fractionOf, normalTail}
+use Rattle.normal.specs.Twins.{byCdfOf}
 use Rattle.conditionals.specs.declared.normals.Ratios.{Ratios}
 use Rattle.conditionals.specs.declared.normals.Pairs.{Pairs}
 use Rattle.conditionals.specs.Normals.{acrossOf, cdfOf, cdfsOf, gapsOf, normalAt, ratiosOf, normalsOf}
-use Rattle.conditionals.specs.Tails.{fractionsOf, beyondOf, tailAt, tailsAt, tailsOf}
+use Rattle.conditionals.specs.Tails.{fractionsOf, beyondOf, tailAtOf, tailsAt, tailsOf}
 use Rattle.conditionals.proofs.TailsLaws.{none-beyond}
 
-pub gap : (r x l : Float) → r ≡ logPhi x → r ⊖ l ≡ logPhi x ⊖ l
+pub gap : (r x l : Float) → r ≡ logPhiOf x → r ⊖ l ≡ logPhiOf x ⊖ l
 gap r x l e = rw e
 
 pub half-at : (x a : Float) → a ≡ erfcOf (neg x ⊘ sqrt-two) → half· ⊗ a ≡ cdfOf x
@@ -49,16 +49,16 @@ module _ (x cdf : List Float) where
   unfolding logsOf
   log-at j l = at-place (nth logOf cdf) j nan l
 
-  gap-at : (j : ℕ) → j < 16 → getD (gapsOf x logs) j nan ≡ logPhi (getD x j nan) ⊖ getD logs j nan
+  gap-at : (j : ℕ) → j < 16 → getD (gapsOf x logs) j nan ≡ logPhiOf (getD x j nan) ⊖ getD logs j nan
   unfolding gapsOf
-  gap-at j l = at-place (λ i. logPhi (getD x i nan) ⊖ getD logs i nan) j nan l
+  gap-at j l = at-place (λ i. logPhiOf (getD x i nan) ⊖ getD logs i nan) j nan l
 
-  ratio-at : (j : ℕ) → j < 16 → getD ratios j nan ≡ expOf (logPhi (getD x j nan) ⊖ logOf (getD cdf j nan))
+  ratio-at : (j : ℕ) → j < 16 → getD ratios j nan ≡ expOf (logPhiOf (getD x j nan) ⊖ logOf (getD cdf j nan))
   unfolding expsOf
   ratio-at j l = rw (at-place (nth expOf (gapsOf x logs)) j nan l, gap-at j l, log-at j l)
 
   -- where the fraction serves, and where it does not
-  near-at : (j : ℕ) → j < 16 → _≡_ {A = LogMills} (record { log = getD logs j nan; mills = getD ratios j nan }) (byCdf (logPhi (getD x j nan)) (getD cdf j nan))
+  near-at : (j : ℕ) → j < 16 → _≡_ {A = LogMills} (record { log = getD logs j nan; mills = getD ratios j nan }) (byCdfOf (logPhiOf (getD x j nan)) (getD cdf j nan))
   near-at j l = rw (log-at j l, ratio-at j l)
 
   tail-at : (j : ℕ) → j < 16 → tailsAt x (fractionsOf (acrossOf x)) (record { log = logs; mills = ratios }) j ≡ normalAt (getD x j nan) (getD cdf j nan)

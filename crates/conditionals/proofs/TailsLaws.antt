@@ -13,10 +13,10 @@ use Rattle.elementary.specs.Log.{logOf}
 use Rattle.lanes.specs.Lanes.{values, nth}
 use Rattle.lanes.specs.Filled.{at-place, same-values, own-values}
 use Rattle.normal.specs.declared.mills.LogMills.{LogMills}
-use Rattle.normal.specs.Normal.{logPhi, fractionFrom, fraction-step, fractionOf}
+use Rattle.normal.specs.Normal.{logPhiOf, fractionFrom, fraction-step, fractionOf}
 use Rattle.conditionals.specs.declared.normals.Ratios.{Ratios}
 use Rattle.conditionals.specs.Normals.{acrossOf}
-use Rattle.conditionals.specs.Tails.{deeperOf, fractionsOf, beyondFrom, beyondOf, tailAt, tailsAt, tailsOf}
+use Rattle.conditionals.specs.Tails.{deeperOf, fractionsOf, beyondFrom, beyondOf, tailAtOf, tailsAt, tailsOf}
 
 -- ---- the fractions
 module _ (t f : List Float) (k : ℕ) where

@@ -7,7 +7,7 @@ use lib.Ieee.{Float, nan, neg}
 use Rattle.num.specs.F64.{_⊗_, half·, one·}
 use Rattle.lanes.specs.Lanes.{values}
 use Rattle.normal.specs.declared.moments.ConditionalLog.{ConditionalLog}
-use Rattle.normal.specs.Conditional.{millsOf, combinedOf, conditionalOf}
+use Rattle.normal.specs.Conditional.{millsDerivativesOf, combinedOf, conditionalOf}
 use Rattle.conditionals.specs.declared.normals.Ratios.{Ratios}
 use Rattle.conditionals.specs.declared.Moments.{Moments}
 
@@ -31,7 +31,7 @@ conditionalsOf x successes total = momentsOf (λ i. conditionalOf (getD x i nan)
 
 -- one place: y successes and f failures, with the logarithms and the ratios at x and across zero
 abbrev pub shareOf : Float → Float → Float → Float → Float → Float → Float → ConditionalLog
-shareOf x y f lp rp lm rm = combinedOf y f lp lm (millsOf x rp) (millsOf (neg x) rm)
+shareOf x y f lp rp lm rm = combinedOf y f lp lm (millsDerivativesOf x rp) (millsDerivativesOf (neg x) rm)
 
 -- sixteen, from the normal distribution at each and across zero
 abbrev pub shareAt : List Float → Float → Float → Ratios → Ratios → ℕ → ConditionalLog

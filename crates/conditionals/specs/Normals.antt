@@ -8,8 +8,8 @@ use Rattle.num.specs.F64.{_⊖_, _⊗_, _⊘_, half·, eight·}
 use Rattle.elementary.specs.Erfc.{erfcOf}
 use Rattle.lanes.specs.Lanes.{values, nth}
 use Rattle.normal.specs.declared.mills.LogMills.{LogMills}
-use Rattle.normal.specs.Normal.{logPhi, sqrt-two, normalTail}
-use Rattle.normal.specs.Twins.{byCdf}
+use Rattle.normal.specs.Normal.{logPhiOf, sqrt-two, normalTail}
+use Rattle.normal.specs.Twins.{byCdfOf}
 use Rattle.conditionals.specs.declared.normals.Ratios.{Ratios}
 use Rattle.conditionals.specs.declared.normals.Pairs.{Pairs}
 
@@ -23,11 +23,11 @@ unfoldable pub cdfsOf : List Float → Pairs
 cdfsOf x = record { at = values (nth cdfOf x) 16 0; across = values (nth (λ y. cdfOf (neg y)) x) 16 0 }
 
 unfoldable pub gapsOf : List Float → List Float → List Float
-gapsOf x log = values (λ i. logPhi (getD x i nan) ⊖ getD log i nan) 16 0
+gapsOf x log = values (λ i. logPhiOf (getD x i nan) ⊖ getD log i nan) 16 0
 
 -- at x, where the distribution is cdf
 abbrev pub normalAt : Float → Float → LogMills
-normalAt x cdf = cond (lt x (neg eight·)) (normalTail x) (byCdf (logPhi x) cdf)
+normalAt x cdf = cond (lt x (neg eight·)) (normalTail x) (byCdfOf (logPhiOf x) cdf)
 
 -- the arrays, from what is at each place
 abbrev pub ratiosOf : (ℕ → LogMills) → Ratios

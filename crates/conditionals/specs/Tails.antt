@@ -8,7 +8,7 @@ use Rattle.num.specs.F64.{_⊕_, _⊖_, _⊘_, eight·}
 use Rattle.elementary.specs.Log.{logOf}
 use Rattle.lanes.specs.Lanes.{values, nth}
 use Rattle.normal.specs.declared.mills.LogMills.{LogMills}
-use Rattle.normal.specs.Normal.{fractionOf, logPhi}
+use Rattle.normal.specs.Normal.{fractionOf, logPhiOf}
 use Rattle.conditionals.specs.declared.normals.Ratios.{Ratios}
 use Rattle.conditionals.specs.Normals.{acrossOf, ratiosOf}
 
@@ -27,14 +27,14 @@ unfoldable pub beyondOf : List Float → Bool
 beyondOf x = beyondFrom x 16 0
 
 -- beyond -8 by the fraction, else what is there
-abbrev pub tailAt : Float → Float → Float → Float → LogMills
-tailAt x fraction log mills =
+abbrev pub tailAtOf : Float → Float → Float → Float → LogMills
+tailAtOf x fraction log mills =
     let ratio = neg x ⊕ fraction in
-    cond (lt x (neg eight·)) (record { log = logPhi x ⊖ logOf ratio; mills = ratio }) (record { log = log; mills = mills })
+    cond (lt x (neg eight·)) (record { log = logPhiOf x ⊖ logOf ratio; mills = ratio }) (record { log = log; mills = mills })
 
 -- sixteen, with the fraction f of each
 abbrev pub tailsAt : List Float → List Float → Ratios → ℕ → LogMills
-tailsAt x f n i = tailAt (getD x i nan) (getD f i nan) (getD (n .log) i nan) (getD (n .mills) i nan)
+tailsAt x f n i = tailAtOf (getD x i nan) (getD f i nan) (getD (n .log) i nan) (getD (n .mills) i nan)
 
 unfoldable pub tailsOf : List Float → Ratios → Ratios
 tailsOf x n = ratiosOf (tailsAt x (fractionsOf (acrossOf x)) n)

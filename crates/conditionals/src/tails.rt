@@ -1,7 +1,7 @@
 // The far tail at sixteen places: the continued fraction of each, term by term for all of them.
 use crate::normals::Ratios;
 ghost use mathlib.Core.Path.{_≡_};
-ghost use Rattle.conditionals.specs.Tails.{deeperOf, fractionsOf, beyondOf, tailAt, tailsOf};
+ghost use Rattle.conditionals.specs.Tails.{deeperOf, fractionsOf, beyondOf, tailAtOf, tailsOf};
 
 // One term farther out: term / (t + f).
 fn deeper(t: [f64; 16], f: [f64; 16], term: f64) -> [f64; 16]
@@ -39,7 +39,7 @@ pub fn beyond(x: [f64; 16]) -> bool
 }
 
 fn tail_at(x: f64, fraction: f64, log: f64, mills: f64) -> normal::LogMills
-    ensures { λ r. ⌜ r ≡ tailAt x fraction log mills ⌝ }
+    ensures { λ r. ⌜ r ≡ tailAtOf x fraction log mills ⌝ }
 {
     if x < -8.0 {
         let ratio = -x + fraction;

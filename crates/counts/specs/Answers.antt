@@ -12,16 +12,16 @@ use Rattle.planar.specs.Planar.{noPlanar}
 use Rattle.exposure.specs.Rows.{eventsOf}
 use Rattle.counts.specs.declared.sum.Objective.{Objective}
 use Rattle.counts.specs.Rows.{finiteOf, totalsOf}
-use Rattle.counts.specs.Objective.{admits, objective, inFull, toObjective, objectiveOf, refusalOf, valueOf, toldOf}
+use Rattle.counts.specs.Objective.{admits, objective, inFull, toObjective, objectiveOf, refusalOf, evaluatedOf, toldOf}
 use Rattle.counts.specs.Counted.{testedOf, evaluates-in-full}
 
 -- the test after the last row, at the code's answer
-by-test : (x y : Float) (cs : List ℕ) (es : List Float) → told toObjective noPlanar (record { ended = testedOf (totalsOf x y cs es); used = eventsOf cs }) ≡ toldOf (valueOf x y cs es)
-unfolding testedOf valueOf
+by-test : (x y : Float) (cs : List ℕ) (es : List Float) → told toObjective noPlanar (record { ended = testedOf (totalsOf x y cs es); used = eventsOf cs }) ≡ toldOf (evaluatedOf x y cs es)
+unfolding testedOf evaluatedOf
 by-test x y cs es = split (finiteOf (totalsOf x y cs es)) (λ t. rw t) (λ t. rw t)
 
 module _ (shape rate : Float) (cs : List ℕ) (es : List Float) where
-  pub objective-admitted : admits shape rate cs es ≡ true → objectiveOf shape rate cs es ≡ toldOf (valueOf (logOf shape) (logOf rate) cs es)
+  pub objective-admitted : admits shape rate cs es ≡ true → objectiveOf shape rate cs es ≡ toldOf (evaluatedOf (logOf shape) (logOf rate) cs es)
   unfolding objectiveOf objective
   objective-admitted h = rw h (ap (λ m. told toObjective noPlanar m) (evaluates-in-full (logOf shape) (logOf rate) cs es) ∙ by-test (logOf shape) (logOf rate) cs es)
 
@@ -35,8 +35,8 @@ module _ (shape rate : Float) (cs : List ℕ) (es : List Float) where
     pub answered : finiteOf (totalsOf (logOf shape) (logOf rate) cs es) ≡ true → o ≡ toObjective Answered (eventsOf cs) (totalsOf (logOf shape) (logOf rate) cs es)
     pub refused : finiteOf (totalsOf (logOf shape) (logOf rate) cs es) ≡ false → o ≡ toObjective (Domain 6) (eventsOf cs) noPlanar
 
-  ends-by : Ends (toldOf (valueOf (logOf shape) (logOf rate) cs es))
-  unfolding valueOf
+  ends-by : Ends (toldOf (evaluatedOf (logOf shape) (logOf rate) cs es))
+  unfolding evaluatedOf
   ends-by =
       let v = totalsOf (logOf shape) (logOf rate) cs es in
       record {

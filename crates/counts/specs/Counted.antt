@@ -19,7 +19,7 @@ use Rattle.planar.specs.declared.Planar.{Planar}
 use Rattle.planar.specs.Planar.{noPlanar}
 use Rattle.exposure.specs.Rows.{countAt, exposureAt, eventsFrom, eventsOf}
 use Rattle.counts.specs.declared.share.Rising.{Rising}
-use Rattle.counts.specs.Share.{noRising, termAt, raised, rise, rowOf, risingFrom, risingOf, withRow}
+use Rattle.counts.specs.Share.{noRising, termAt, raised, rise, rowOf, risingFrom, risenOf, withRowOf}
 use Rattle.counts.specs.Rows.{finiteOf, rows, evaluate, rowsFrom, totalsOf}
 use Rattle.counts.specs.Objective.{inFull}
 
@@ -59,7 +59,7 @@ module _ (l : ℕ) where
 
   module _ (shape log-rate : Float) (cs : List ℕ) (es : List Float) where
     sums : (n i u : ℕ) (v : Planar) → u + eventsFrom cs n i ≤ l → metered logOf l u (rows shape log-rate cs es n i v) ≡ record { ended = testedOf (rowsFrom shape log-rate cs es n i v); used = u + eventsFrom cs n i }
-    unfolding rows rowsFrom eventsFrom withRow risingOf
+    unfolding rows rowsFrom eventsFrom withRowOf risenOf
     sums zero i u v h = rw (add-zero u) (tests u v)
     sums (suc n) i u v h =
         let c = countAt cs i in

@@ -10,7 +10,7 @@ use lib.Ieee.{Float, binary64, fits, isNan}
 use lib.Ieee.Fits.{add-fits}
 use lib.Ieee.Bits.{ofBits-fits}
 use Rattle.num.specs.F64.{_⊖_, _⊗_}
-use Rattle.num.specs.Helpers.{isFinite}
+use Rattle.num.specs.Helpers.{isFiniteOf}
 use Rattle.order.specs.Numbers.{finite-number}
 use Rattle.order.specs.Sums.{add-number-right}
 use Rattle.order.specs.Products.{mul-number-right, mul-swap}
@@ -22,7 +22,7 @@ use Rattle.planar.specs.Planar.{noPlanar}
 use Rattle.exposure.specs.Rows.{countAt, exposureAt}
 use Rattle.exposure.specs.Passed.{left, right}
 use Rattle.counts.specs.declared.share.Rising.{Rising}
-use Rattle.counts.specs.Share.{noRising, rise, oddsOf, rowOf}
+use Rattle.counts.specs.Share.{noRising, rise, oddsAtOf, rowOf}
 use Rattle.counts.specs.Rows.{finiteOf, rows, evaluate}
 
 record Written (v : Planar) : Type 0 where
@@ -38,17 +38,17 @@ pub record Known (v : Planar) : Type 0 where
 
 -- the likelihood and the gradient, of all that is finite
 module _ (v : Planar) (h : finiteOf v ≡ true) where
-  pub nll-finite : isFinite (v .nll) ≡ true
+  pub nll-finite : isFiniteOf (v .nll) ≡ true
   unfolding finiteOf
-  nll-finite = left (isFinite (v .nll)) _ h
+  nll-finite = left (isFiniteOf (v .nll)) _ h
 
-  pub x-finite : isFinite (v .x) ≡ true
+  pub x-finite : isFiniteOf (v .x) ≡ true
   unfolding finiteOf
-  x-finite = left (isFinite (v .x)) _ (right (isFinite (v .nll)) _ h)
+  x-finite = left (isFiniteOf (v .x)) _ (right (isFiniteOf (v .nll)) _ h)
 
-  pub y-finite : isFinite (v .y) ≡ true
+  pub y-finite : isFiniteOf (v .y) ≡ true
   unfolding finiteOf
-  y-finite = left (isFinite (v .y)) _ (right (isFinite (v .x)) _ (right (isFinite (v .nll)) _ h))
+  y-finite = left (isFiniteOf (v .y)) _ (right (isFiniteOf (v .x)) _ (right (isFiniteOf (v .nll)) _ h))
 
 module _ (shape log-rate : Float) (cs : List ℕ) (es : List Float) where
   rows-known : (n i : ℕ) (v : Planar) → Written v → Always Known (rows shape log-rate cs es n i v)
@@ -63,14 +63,14 @@ unfolding evaluate
 evaluate-known x y cs es = rows-known (expOf x) y cs es (length cs) 0 noPlanar (record { nll = ofBits-fits binary64 0; x = ofBits-fits binary64 0; y = ofBits-fits binary64 0 })
 
 -- ---- the gradient's first number is a sum of multiples of the shape
-shape-number : (v : Planar) (shape log-rate : Float) (count : ℕ) (exposure : Float) (s : Rising) → isFinite (rowOf v shape log-rate count exposure s .x) ≡ true → isNan shape ≡ false
+shape-number : (v : Planar) (shape log-rate : Float) (count : ℕ) (exposure : Float) (s : Rising) → isFiniteOf (rowOf v shape log-rate count exposure s .x) ≡ true → isNan shape ≡ false
 unfolding rowOf
 shape-number v shape log-rate count exposure s h =
-    let b = oddsOf (logOf exposure ⊖ log-rate) .logq ⊖ s .inverse in
+    let b = oddsAtOf (logOf exposure ⊖ log-rate) .logq ⊖ s .inverse in
     mul-number-right b shape (rw (mul-swap b shape) (add-number-right (v .x) (shape ⊗ b) (finite-number _ h)))
 
 module _ (shape log-rate : Float) (cs : List ℕ) (es : List Float) where
-  rows-shaped : (n i : ℕ) (v : Planar) → (isFinite (v .x) ≡ true → isNan shape ≡ false) → Always (λ (w : Planar). isNan shape ≡ false) (rows shape log-rate cs es n i v)
+  rows-shaped : (n i : ℕ) (v : Planar) → (isFiniteOf (v .x) ≡ true → isNan shape ≡ false) → Always (λ (w : Planar). isNan shape ≡ false) (rows shape log-rate cs es n i v)
   unfolding rows
   rows-shaped zero i v k = tested (finiteOf v) (λ t. holds (k (x-finite v t))) (λ t. refuses)
   rows-shaped (suc n) i v k =

@@ -11,14 +11,14 @@ use Rattle.work.specs.Ended.{invalid}
 use Rattle.work.specs.Work.{Work, stop, Metered, run, listed, told}
 use Rattle.planar.specs.declared.Planar.{Planar}
 use Rattle.planar.specs.Planar.{noPlanar}
-use Rattle.exposure.specs.Rows.{positive, eventsOf, validRows}
-use Rattle.exposure.specs.Request.{validShape}
+use Rattle.exposure.specs.Rows.{isPositiveOf, eventsOf, validRowsOf}
+use Rattle.exposure.specs.Request.{validShapeOf}
 use Rattle.counts.specs.declared.sum.Value.{Value}
 use Rattle.counts.specs.declared.sum.Objective.{Objective}
 use Rattle.counts.specs.Rows.{finiteOf, evaluate, totalsOf}
 
 abbrev pub admits : Float → Float → List ℕ → List Float → Bool
-admits shape rate cs es = (validShape shape && positive rate) && validRows cs es
+admits shape rate cs es = (validShapeOf shape && isPositiveOf rate) && validRowsOf cs es
 
 unfoldable pub objective : Float → Float → List ℕ → List Float → Work Float Float Planar
 objective shape rate cs es = cond (admits shape rate cs es) (evaluate (logOf shape) (logOf rate) cs es) (stop invalid)
@@ -38,13 +38,13 @@ objectiveOf shape rate cs es = told toObjective noPlanar (inFull (objective shap
 abbrev pub refusalOf : Objective
 refusalOf = toObjective InvalidInput 0 noPlanar
 
-abbrev pub notFinite : ℕ → Value
-notFinite n = record { end = Domain 6; passes = n; v = noPlanar }
+abbrev pub notFiniteOf : ℕ → Value
+notFiniteOf n = record { end = Domain 6; passes = n; v = noPlanar }
 
-unfoldable pub valueOf : Float → Float → List ℕ → List Float → Value
-valueOf x y cs es =
+unfoldable pub evaluatedOf : Float → Float → List ℕ → List Float → Value
+evaluatedOf x y cs es =
     let v = totalsOf x y cs es in
-    cond (finiteOf v) (record { end = Answered; passes = eventsOf cs; v = v }) (notFinite (eventsOf cs))
+    cond (finiteOf v) (record { end = Answered; passes = eventsOf cs; v = v }) (notFiniteOf (eventsOf cs))
 
 abbrev pub toldOf : Value → Objective
 toldOf o = toObjective (o .end) (o .passes) (o .v)

@@ -1,4 +1,4 @@
--- Why an evaluation may stop: reason 6, and nothing else.
+-- Why an evaluation may stop: reason 6, total not finite, and nothing else.
 use mathlib.Core.Path.{_≡_, refl}
 use mathlib.Core.List.{List}
 use Prim.Native.Nat.{ℕ, zero, suc, _+_}

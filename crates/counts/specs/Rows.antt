@@ -4,19 +4,19 @@ use mathlib.Core.List.{List}
 use Prim.Native.Nat.{ℕ, zero, suc, _+_}
 use lib.ListN.{length}
 use lib.Ieee.{Float}
-use Rattle.num.specs.Helpers.{isFinite}
+use Rattle.num.specs.Helpers.{isFiniteOf}
 use Rattle.elementary.specs.Exp.{expOf}
 use Rattle.work.specs.Ended.{domain}
 use Rattle.work.specs.Work.{Work, ret, stop, _>>=_}
 use Rattle.planar.specs.declared.Planar.{Planar}
 use Rattle.planar.specs.Planar.{noPlanar}
 use Rattle.exposure.specs.Rows.{countAt, exposureAt}
-use Rattle.counts.specs.Share.{noRising, rise, rowOf, withRow}
+use Rattle.counts.specs.Share.{noRising, rise, rowOf, withRowOf}
 
 unfoldable pub finiteOf : Planar → Bool
-finiteOf v = isFinite (v .nll) && (isFinite (v .x) && (isFinite (v .y) && (isFinite (v .xx) && (isFinite (v .xy) && isFinite (v .yy)))))
+finiteOf v = isFiniteOf (v .nll) && (isFiniteOf (v .x) && (isFiniteOf (v .y) && (isFiniteOf (v .xx) && (isFiniteOf (v .xy) && isFiniteOf (v .yy)))))
 
--- n rows from the i-th on; reason 6: a sum is not finite
+-- n rows from the i-th on; reason 6, total not finite: an entry of their sum
 unfoldable pub rows : Float → Float → List ℕ → List Float → ℕ → ℕ → Planar → Work Float Float Planar
 rows shape log-rate cs es zero i v = cond (finiteOf v) (ret v) (stop (domain 6))
 rows shape log-rate cs es (suc n) i v = do
@@ -31,7 +31,7 @@ evaluate x y cs es = rows (expOf x) y cs es (length cs) 0 noPlanar
 
 unfoldable pub rowsFrom : Float → Float → List ℕ → List Float → ℕ → ℕ → Planar → Planar
 rowsFrom shape log-rate cs es zero i v = v
-rowsFrom shape log-rate cs es (suc n) i v = rowsFrom shape log-rate cs es n (i + 1) (withRow v shape log-rate (countAt cs i) (exposureAt es i))
+rowsFrom shape log-rate cs es (suc n) i v = rowsFrom shape log-rate cs es n (i + 1) (withRowOf v shape log-rate (countAt cs i) (exposureAt es i))
 
 unfoldable pub totalsOf : Float → Float → List ℕ → List Float → Planar
 totalsOf x y cs es = rowsFrom (expOf x) y cs es (length cs) 0 noPlanar

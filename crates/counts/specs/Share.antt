@@ -34,8 +34,8 @@ rise shape (suc n) k s = ask (termAt shape k) (λ l. rise shape n (k + 1) (raise
 unfoldable pub softplusOf : Float → Float
 softplusOf x = cond (lt zero· x) (x ⊕ log1pOf (expOf (neg x))) (log1pOf (expOf x))
 
-unfoldable pub oddsOf : Float → Odds
-oddsOf difference =
+unfoldable pub oddsAtOf : Float → Odds
+oddsAtOf difference =
     let log-q = softplusOf difference in
     let log-p = softplusOf (neg difference) in
     record { logq = log-q; logp = log-p; p = expOf (neg log-q); q = expOf (neg log-p) }
@@ -54,22 +54,22 @@ addedOf v shape count factorial s o =
 
 -- the row's terms added, its inner loop behind it
 unfoldable pub rowOf : Planar → Float → Float → ℕ → Float → Rising → Planar
-rowOf v shape log-rate count exposure s = addedOf v shape (whole count) (logFactorialOf count) s (oddsOf (logOf exposure ⊖ log-rate))
+rowOf v shape log-rate count exposure s = addedOf v shape (whole count) (logFactorialOf count) s (oddsAtOf (logOf exposure ⊖ log-rate))
 
 -- ---- as code has it
 
-abbrev pub oddsWith : Float → Float → Odds
-oddsWith log-q log-p = record { logq = log-q; logp = log-p; p = expOf (neg log-q); q = expOf (neg log-p) }
+abbrev pub oddsWithOf : Float → Float → Odds
+oddsWithOf log-q log-p = record { logq = log-q; logp = log-p; p = expOf (neg log-q); q = expOf (neg log-p) }
 
-abbrev pub passOf : Rising → Float → Rising
-passOf s term = raised s term (logOf term)
+abbrev pub passedOf : Rising → Float → Rising
+passedOf s term = raised s term (logOf term)
 
 unfoldable pub risingFrom : Float → ℕ → ℕ → Rising → Rising
 risingFrom shape zero k s = s
-risingFrom shape (suc n) k s = risingFrom shape n (k + 1) (passOf s (termAt shape k))
+risingFrom shape (suc n) k s = risingFrom shape n (k + 1) (passedOf s (termAt shape k))
 
-unfoldable pub risingOf : Float → ℕ → Rising
-risingOf shape count = risingFrom shape count 0 noRising
+unfoldable pub risenOf : Float → ℕ → Rising
+risenOf shape count = risingFrom shape count 0 noRising
 
-unfoldable pub withRow : Planar → Float → Float → ℕ → Float → Planar
-withRow v shape log-rate count exposure = rowOf v shape log-rate count exposure (risingOf shape count)
+unfoldable pub withRowOf : Planar → Float → Float → ℕ → Float → Planar
+withRowOf v shape log-rate count exposure = rowOf v shape log-rate count exposure (risenOf shape count)

@@ -3,8 +3,8 @@ use crate::share::Rising;
 ghost use mathlib.Core.Path.{_≡_};
 ghost use Prim.Native.Nat.{_+_, _*_, _≤_, _<_};
 ghost use lib.ListN.{length};
-ghost use Rattle.counts.specs.Share.{risingOf};
-ghost use Rattle.counts.specs.Rungs.{lesserOf, largerOf, largestOf, rungAt, withRung, Held};
+ghost use Rattle.counts.specs.Share.{risenOf};
+ghost use Rattle.counts.specs.Rungs.{lesserOf, largerOf, largestOf, rungAtOf, setRungOf, Held};
 
 // The most that the table holds: rungs 0 to 63, of three numbers each.
 const TOP: u32 = 63;
@@ -47,7 +47,7 @@ pub fn top_of(counts: &[u32]) -> u32
 
 fn rung_at(rungs: &[f64], j: usize) -> Rising
     requires { ⌜ 3 * j + 2 < length (now rungs) ⌝ }
-    ensures { λ r. ⌜ r ≡ rungAt (now (rungs .entry)) j ⌝ }
+    ensures { λ r. ⌜ r ≡ rungAtOf (now (rungs .entry)) j ⌝ }
 {
     Rising {
         log: rungs[3 * j],
@@ -58,7 +58,7 @@ fn rung_at(rungs: &[f64], j: usize) -> Rising
 
 fn set_rung(rungs: &mut [f64], j: usize, s: Rising)
     requires { ⌜ 3 * j + 2 < length (now rungs) ⌝ }
-    ensures { λ r. ⌜ now (rungs .exit) ≡ withRung (now (rungs .entry)) j s ⌝ }
+    ensures { λ r. ⌜ now (rungs .exit) ≡ setRungOf (now (rungs .entry)) j s ⌝ }
 {
     rungs[3 * j] = s.log;
     rungs[3 * j + 1] = s.inverse;
@@ -82,7 +82,7 @@ pub fn fill(shape: f64, top: u32, rungs: &mut [f64])
 // A row's sums: the rung of its count; past the top, the loop goes on from there.
 pub fn risen(shape: f64, count: u32, top: u32, rungs: &[f64]) -> Rising
     requires { ⌜ Held shape top (now rungs) ⌝ }
-    ensures { λ r. ⌜ r ≡ risingOf shape count ⌝ }
+    ensures { λ r. ⌜ r ≡ risenOf shape count ⌝ }
 {
     let first = lesser(count, top);
     let mut s = rung_at(rungs, first as usize);

@@ -1,7 +1,7 @@
 // A row's share of the likelihood and its derivatives.
 use planar::Planar;
 ghost use mathlib.Core.Path.{_≡_};
-ghost use Rattle.counts.specs.Share.{noRising, passOf, softplusOf, oddsWith, oddsOf, addedOf, withRow};
+ghost use Rattle.counts.specs.Share.{noRising, passedOf, softplusOf, oddsWithOf, oddsAtOf, addedOf, withRowOf};
 ghost use Rattle.counts.specs.Rungs.{Held};
 
 // Over the terms shape + k, for the k below a row's count: the sums of the logarithms, the reciprocals and their squares.
@@ -30,7 +30,7 @@ pub fn nothing() -> Rising
 }
 
 pub fn passed(s: Rising, term: f64) -> Rising
-    ensures { λ r. ⌜ r ≡ passOf s term ⌝ }
+    ensures { λ r. ⌜ r ≡ passedOf s term ⌝ }
 {
     let reciprocal = 1.0 / term;
     Rising {
@@ -50,7 +50,7 @@ fn softplus(x: f64) -> f64
 }
 
 fn odds_with(logq: f64, logp: f64) -> Odds
-    ensures { λ r. ⌜ r ≡ oddsWith logq logp ⌝ }
+    ensures { λ r. ⌜ r ≡ oddsWithOf logq logp ⌝ }
 {
     Odds {
         logq,
@@ -62,7 +62,7 @@ fn odds_with(logq: f64, logp: f64) -> Odds
 
 // At the difference of the logarithms of exposure and rate. On either side of zero the two softplus have their logarithm in common: it is computed once.
 fn odds_at(difference: f64) -> Odds
-    ensures { λ r. ⌜ r ≡ oddsOf difference ⌝ }
+    ensures { λ r. ⌜ r ≡ oddsAtOf difference ⌝ }
 {
     if 0.0 < difference {
         let common = elementary::log1p::log1p(elementary::exp::exp(-difference));
@@ -100,7 +100,7 @@ pub fn with_row(
     rungs: &[f64],
 ) -> Planar
     requires { ⌜ Held shape top (now rungs) ⌝ }
-    ensures { λ r. ⌜ r ≡ withRow v shape y count exposure ⌝ }
+    ensures { λ r. ⌜ r ≡ withRowOf v shape y count exposure ⌝ }
 {
     let difference = elementary::log::log(exposure) - y;
     let o = odds_at(difference);

@@ -7,7 +7,7 @@ ghost use lib.ListN.{length};
 ghost use Rattle.planar.specs.Planar.{noPlanar};
 ghost use Rattle.counts.specs.Rungs.{Held};
 ghost use Rattle.counts.specs.Rows.{rowsFrom, totalsOf, finiteOf};
-ghost use Rattle.counts.specs.Objective.{notFinite, valueOf, refusalOf, toldOf, objectiveOf};
+ghost use Rattle.counts.specs.Objective.{notFiniteOf, evaluatedOf, refusalOf, toldOf, objectiveOf};
 
 // The passes of the definition's inner loop, one for each event, however few of them `rungs` makes.
 pub struct Passes(pub u64);
@@ -61,7 +61,7 @@ fn finite(v: Planar) -> bool
 }
 
 fn not_finite(passes: u64) -> Value
-    ensures { λ r. ⌜ r ≡ notFinite passes ⌝ }
+    ensures { λ r. ⌜ r ≡ notFiniteOf passes ⌝ }
 {
     Value {
         end: Ending::Domain(6),
@@ -73,7 +73,7 @@ fn not_finite(passes: u64) -> Value
 // At the logarithms of shape and rate. The test follows all rows, so a refusal counts every pass too.
 pub fn evaluated(x: f64, y: f64, counts: &[u32], exposures: &[f64]) -> Value
     requires { ⌜ (length (now counts) ≤ 4096) × (length (now counts) ≤ length (now exposures)) ⌝ }
-    ensures { λ r. ⌜ r ≡ valueOf x y (now (counts .entry)) (now (exposures .entry)) ⌝ }
+    ensures { λ r. ⌜ r ≡ evaluatedOf x y (now (counts .entry)) (now (exposures .entry)) ⌝ }
 {
     let v = totals(x, y, counts, exposures);
     let passes = exposure::rows::events(counts);

@@ -9,31 +9,31 @@ use Rattle.work.specs.declared.Ending.the-variants.{Answered}
 use Rattle.work.specs.Ended.{isRefused}
 use Rattle.work.specs.Work.{Work, ret, _>>=_}
 use Rattle.value.specs.declared.Totals.{Totals}
-use Rattle.planar.specs.Planar.{widen}
+use Rattle.planar.specs.Planar.{widenedOf}
 use Rattle.exposure.specs.declared.request.Request.{Request}
 use Rattle.counts.specs.Rows.{evaluate}
-use Rattle.counts.specs.Objective.{valueOf}
-use Rattle.trial.specs.Judged.{normAt}
+use Rattle.counts.specs.Objective.{evaluatedOf}
+use Rattle.trial.specs.Judged.{normAtOf}
 use Rattle.stepper.specs.declared.Plan.{Plan}
 use Rattle.plane.specs.Among.{placed}
 use Rattle.course.specs.declared.Course.{Course}
 use Rattle.course.specs.Drives.{courseOf}
 use Rattle.counts_fit.specs.declared.drive.Value.{Value}
 use Rattle.counts_fit.specs.declared.report.Fit.{Fit}
-use Rattle.counts_fit.specs.Fit.{Report, lowOf, highOf, naturalOf, onBound, toFit, refusedOf}
+use Rattle.counts_fit.specs.Fit.{Report, lowOf, highOf, naturalOf, onBoundOf, toFit, refusedOf}
 
 abbrev pub valueAmong : List ℕ → List Float → List Float → Work Float Float Totals
-valueAmong cs es x = evaluate (getD x 1 nan) (getD x 3 nan) cs es >>= λ v. ret (widen v)
+valueAmong cs es x = evaluate (getD x 1 nan) (getD x 3 nan) cs es >>= λ v. ret (widenedOf v)
 
-unfoldable pub amongOf : List ℕ → List Float → List Float → Value
-amongOf cs es x = let o = valueOf (getD x 1 nan) (getD x 3 nan) cs es in record { end = o .end; used = o .passes; v = widen (o .v) }
+unfoldable pub valueAtOf : List ℕ → List Float → List Float → Value
+valueAtOf cs es x = let o = evaluatedOf (getD x 1 nan) (getD x 3 nan) cs es in record { end = o .end; used = o .passes; v = widenedOf (o .v) }
 
 -- the passes that every admitted fit keeps within, so that no limit is met
 abbrev pub enough : ℕ
 enough = 20000000
 
-unfoldable pub drivenOf : List ℕ → List Float → Plan → List Float → Course
-drivenOf cs es p x = courseOf logOf (valueAmong cs es) enough p 0 x
+unfoldable pub runOf : List ℕ → List Float → Plan → List Float → Course
+runOf cs es p x = courseOf logOf (valueAmong cs es) enough p 0 x
 
 abbrev pub reportAmong : Request → ℕ → Course → Report
 reportAmong r n d =
@@ -42,11 +42,11 @@ reportAmong r n d =
       shape = naturalOf (getD (d .x) 1 nan) (r .shape);
       rate = naturalOf (getD (d .x) 3 nan) (r .rate);
       nll = d .v .nll;
-      norm = normAt (placed (lowOf r)) (placed (highOf r)) (d .x) (d .v);
+      norm = normAtOf (placed (lowOf r)) (placed (highOf r)) (d .x) (d .v);
       evaluations = d .evaluations .0;
       iterations = d .iterations .0;
       rows = n;
-      active = onBound (getD (d .x) 1 nan) (r .shape) ∷ onBound (getD (d .x) 3 nan) (r .rate) ∷ [];
+      active = onBoundOf (getD (d .x) 1 nan) (r .shape) ∷ onBoundOf (getD (d .x) 3 nan) (r .rate) ∷ [];
     }
 
 unfoldable pub reportedOf : Request → ℕ → Course → Fit

@@ -21,7 +21,7 @@ use Rattle.work.specs.Through.{refused-by}
 use Rattle.descent.specs.Refusals.{never-refuses}
 use Rattle.exposure.specs.declared.request.Request.{Request}
 use Rattle.exposure.specs.Rows.{eventsOf}
-use Rattle.exposure.specs.Request.{productOf, admits}
+use Rattle.exposure.specs.Request.{productOf, admittedOf}
 use Rattle.exposure.specs.Passed.{admitted-passed}
 use Rattle.plane.specs.Plane.{planeOf}
 use Rattle.counts.specs.Objective.{inFull}
@@ -61,17 +61,17 @@ module _ (r : Request) (cs : List ℕ) (es : List Float) where
   refused-is h = told-refused toFit noReport (inFull (fit r cs es)) h
 
   -- A request or rows that fail any check: InvalidInput, with count 0.
-  pub unfit-refused : admits r cs es ≡ false → fitOf r cs es ≡ refusedOf InvalidInput 0
+  pub unfit-refused : admittedOf r cs es ≡ false → fitOf r cs es ≡ refusedOf InvalidInput 0
   unfit-refused h = not-admitted-is r cs es h
 
   -- The passes, of an answer or a refusal, are at most the product that was checked.
   pub passes-within : fitOf r cs es .passes .0 ≤ productOf (eventsOf cs) (length cs) (r .evaluations .0)
   passes-within =
-      split (admits r cs es)
+      split (admittedOf r cs es)
       (λ t. let b = at-most-listed logOf (fit-most r cs es (admitted-passed r cs es t .controls .some)) in unfold fitOf inFull in omega (arith, b, within-product r cs es))
       (λ t. rw (not-admitted-is r cs es t) zero-le)
 
-  module _ (t : admits r cs es ≡ true) where
+  module _ (t : admittedOf r cs es ≡ true) where
     stops-so : Stops NotFinite (fit r cs es)
     unfolding fit
     stops-so = rw t (passed (refused-by (λ q. valueAt cs es (q .at)) (λ q. evaluate-stops (q .at .x) (q .at .y) cs es) (never-refuses (planeOf (planeFor r)) (startOf r))) (λ d. answers))
@@ -86,16 +86,16 @@ module _ (r : Request) (cs : List ℕ) (es : List Float) where
     not-invalid : fitOf r cs es .end ≡ InvalidInput → ⊥
     not-invalid h = metered-invalid logOf enough 0 stops-so (sym ending-is ∙ h)
 
-  other-ending : (e : Ending) → admits r cs es ≡ false → fitOf r cs es .end ≡ e → InvalidInput ≡ e
+  other-ending : (e : Ending) → admittedOf r cs es ≡ false → fitOf r cs es .end ≡ e → InvalidInput ≡ e
   other-ending e t h = sym (ap (λ (f : Fit). f .end) (not-admitted-is r cs es t)) ∙ h
 
   -- A Domain's reason is 6.
   pub domain-reason : (i : ℕ) → fitOf r cs es .end ≡ Domain i → i ≡ 6
-  domain-reason i h = split (admits r cs es) (λ t. domain-so t i h) (λ t. let e = other-ending (Domain i) t h in impossible (cc))
+  domain-reason i h = split (admittedOf r cs es) (λ t. domain-so t i h) (λ t. let e = other-ending (Domain i) t h in impossible (cc))
 
   -- InvalidInput exactly if a check fails.
-  pub invalid-exactly : (fitOf r cs es .end ≡ InvalidInput) ↔ (admits r cs es ≡ false)
-  invalid-exactly = (λ h. split (admits r cs es) (λ t. absurd (not-invalid t h)) (λ t. t), λ t. ap (λ (f : Fit). f .end) (not-admitted-is r cs es t))
+  pub invalid-exactly : (fitOf r cs es .end ≡ InvalidInput) ↔ (admittedOf r cs es ≡ false)
+  invalid-exactly = (λ h. split (admittedOf r cs es) (λ t. absurd (not-invalid t h)) (λ t. t), λ t. ap (λ (f : Fit). f .end) (not-admitted-is r cs es t))
 
   -- There is no work limit to meet.
   pub no-budget : fitOf r cs es .end ≡ WorkBudget → ⊥

@@ -7,7 +7,7 @@ use native.Mathlib.Omega.{arith}
 use lib.Dec.{T}
 use lib.ListN.{length}
 use lib.Ieee.{Float, binary64, le, fits}
-use Rattle.num.specs.Helpers.{isFinite}
+use Rattle.num.specs.Helpers.{isFiniteOf}
 use Rattle.order.specs.Numbers.{finite-number}
 use Rattle.elementary.specs.Log.{logOf}
 use Rattle.work.specs.declared.Ending.the-variants.{Answered}
@@ -25,7 +25,7 @@ use Rattle.descent.specs.Descent.{Asked, Descended, descent}
 use Rattle.descent.specs.Claims.{roundingsOf, raisedBy, Among, Descends, Rounded, unraised, carried, led-evaluated, rounding-step, none-among, at-most-raised, descends-by-trials}
 use Rattle.descent.specs.Points.{Place, place, pointsIn, point-value, of-driven, of-refused}
 use Rattle.exposure.specs.declared.request.Request.{Request}
-use Rattle.exposure.specs.Request.{admits}
+use Rattle.exposure.specs.Request.{admittedOf}
 use Rattle.counts.specs.Known.{Known, nll-finite, evaluate-known}
 use Rattle.plane.specs.Plane.{Spot, planeOf}
 use Rattle.counts_fit.specs.declared.report.Fit.{Fit}
@@ -79,7 +79,7 @@ module _ (r : Request) (cs : List ℕ) (es : List Float) where
 
   pub ends : fitOf r cs es .end ≡ Answered → Ends r cs (fitOf r cs es) (descentOf r cs es .ended)
   ends k =
-      split (admits r cs es)
+      split (admittedOf r cs es)
       (λ t. rw (← descent-is) (by-ending (fitOf r cs es) (metered logOf enough 0 (planar r cs es) .ended) (metered logOf enough 0 (planar r cs es) .used) (fit-after r cs es t) k))
       (λ t. let z = sym (ap (λ (g : Fit). g .end) (not-admitted-is r cs es t)) ∙ k in impossible (cc))
 
@@ -143,12 +143,12 @@ module _ (r : Request) (cs : List ℕ) (es : List Float) where
     start-is : startingOf r cs es ≡ led .start .nll
     start-is = starting-is (led .start) (led .evaluated)
 
-    start-finite-value : isFinite (led .start .nll) ≡ true
+    start-finite-value : isFiniteOf (led .start .nll) ≡ true
     start-finite-value = nll-finite (led .start) (visited-known (startOf r) (led .start) (led .evaluated) .finite)
 
     -- the starting likelihood of an answered fit is finite
-    pub start-finite : isFinite (startingOf r cs es) ≡ true
-    start-finite = ap (λ y. isFinite y) start-is ∙ start-finite-value
+    pub start-finite : isFiniteOf (startingOf r cs es) ≡ true
+    start-finite = ap (λ y. isFiniteOf y) start-is ∙ start-finite-value
 
     -- The reported likelihood is at most the start's, raised by the allowance of each step by the rounding rule.
     pub fit-at-most : le (fitOf r cs es .nll) (raisedBy (trialsOf r cs es) (startingOf r cs es)) ≡ true
@@ -168,5 +168,5 @@ module _ (r : Request) (cs : List ℕ) (es : List Float) where
         record { d = e .d; visited = m; value = visited-value (e .d .x) (e .d .v) m; report = rw (e .is) }
 
     -- An answered fit's likelihood is finite.
-    pub likelihood-finite : isFinite (fitOf r cs es .nll) ≡ true
-    likelihood-finite = ap (λ y. isFinite y) nll-is ∙ nll-finite (ends h .d .v) (visited-known (ends h .d .x) (ends h .d .v) (led-evaluated (planeOf (planeFor r)) Visited (startOf r) (led .start) (led .evaluated) (led .led)) .finite)
+    pub likelihood-finite : isFiniteOf (fitOf r cs es .nll) ≡ true
+    likelihood-finite = ap (λ y. isFiniteOf y) nll-is ∙ nll-finite (ends h .d .v) (visited-known (ends h .d .x) (ends h .d .v) (led-evaluated (planeOf (planeFor r)) Visited (startOf r) (led .start) (led .evaluated) (led .led)) .finite)

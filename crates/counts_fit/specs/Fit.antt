@@ -18,7 +18,7 @@ use Rattle.descent.specs.declared.Status.the-variants.{NoStatus}
 use Rattle.descent.specs.Descent.{Descended, descent}
 use Rattle.exposure.specs.declared.request.Range.{Range}
 use Rattle.exposure.specs.declared.request.Request.{Request}
-use Rattle.exposure.specs.Request.{admits}
+use Rattle.exposure.specs.Request.{admittedOf}
 use Rattle.counts.specs.Rows.{evaluate}
 use Rattle.counts.specs.Objective.{inFull}
 use Rattle.plane.specs.Plane.{Spot, Course, normOf, projectedOf, planeOf}
@@ -58,8 +58,8 @@ pub record Report : Type 0 where
 unfoldable pub naturalOf : Float → Range → Float
 naturalOf x r = clampOf (expOf x) (r .low) (r .high)
 
-unfoldable pub onBound : Float → Range → Bool
-onBound x r = eq x (logOf (r .low)) || eq x (logOf (r .high))
+unfoldable pub onBoundOf : Float → Range → Bool
+onBoundOf x r = eq x (logOf (r .low)) || eq x (logOf (r .high))
 
 abbrev pub reportOf : Request → ℕ → Descended Spot Planar → Report
 reportOf r n d =
@@ -72,13 +72,13 @@ reportOf r n d =
       evaluations = d .evaluations;
       iterations = d .iterations;
       rows = n;
-      active = onBound (d .x .x) (r .shape) ∷ onBound (d .x .y) (r .rate) ∷ [];
+      active = onBoundOf (d .x .x) (r .shape) ∷ onBoundOf (d .x .y) (r .rate) ∷ [];
     }
 
 -- The fit as one computation: each pass of each objective call is asked for here.
 unfoldable pub fit : Request → List ℕ → List Float → Work Float Float Report
 fit r cs es =
-    cond (admits r cs es)
+    cond (admittedOf r cs es)
     (through (λ q. valueAt cs es (q .at)) (descent (planeOf (planeFor r)) (startOf r)) >>= λ d. ret (reportOf r (length cs) d))
     (stop invalid)
 

@@ -13,8 +13,8 @@ use Rattle.work.specs.Given.{Always, holds, refuses, tested, passed}
 use Rattle.descent.specs.Stopping.{reports-evaluated}
 use Rattle.exposure.specs.declared.request.Range.{Range}
 use Rattle.exposure.specs.declared.request.Request.{Request}
-use Rattle.exposure.specs.Rows.{positive, validRows}
-use Rattle.exposure.specs.Request.{validShape, boxed, validShapes, validRates, validControls, validRequest, admits}
+use Rattle.exposure.specs.Rows.{isPositiveOf, validRowsOf}
+use Rattle.exposure.specs.Request.{validShapeOf, isBoxedOf, validShapesOf, validRatesOf, validControlsOf, validRequestOf, admittedOf}
 use Rattle.exposure.specs.Passed.{left, right, admitted-passed}
 use Rattle.counts.specs.Known.{evaluate-shaped}
 use Rattle.counts.specs.Objective.{objective, inFull, objectiveOf}
@@ -28,44 +28,44 @@ pub record Within (x : Float) (r : Range) : Type 0 where
   pub below : le x (r .high) ≡ true
 
 -- an exponential that is a number, clamped
-clamped : (x : Float) (r : Range) → boxed r ≡ true → isNan (expOf x) ≡ false → Within (naturalOf x r) r
-unfolding naturalOf boxed
+clamped : (x : Float) (r : Range) → isBoxedOf r ≡ true → isNan (expOf x) ≡ false → Within (naturalOf x r) r
+unfolding naturalOf isBoxedOf
 clamped x r b n =
     let h = lt-le (r .low) (r .high) (left (lt (r .low) (r .high)) _ b) in
     record { above = clamp-not-below (expOf x) (r .low) (r .high) n h; below = clamp-not-above (expOf x) (r .low) (r .high) n h }
 
 module _ (r : Request) (cs : List ℕ) (es : List Float) where
-  asked : admits r cs es ≡ true → (validShapes (r .shape) && (validRates (r .rate) && validControls r)) ≡ true
-  unfolding admits validRequest
-  asked t = left (validRequest r) _ (left (validRequest r && validRows cs es) _ t)
+  asked : admittedOf r cs es ≡ true → (validShapesOf (r .shape) && (validRatesOf (r .rate) && validControlsOf r)) ≡ true
+  unfolding admittedOf validRequestOf
+  asked t = left (validRequestOf r) _ (left (validRequestOf r && validRowsOf cs es) _ t)
 
-  shape-boxed : admits r cs es ≡ true → boxed (r .shape) ≡ true
-  unfolding validShapes
+  shape-boxed : admittedOf r cs es ≡ true → isBoxedOf (r .shape) ≡ true
+  unfolding validShapesOf
   shape-boxed t =
       let s = r .shape in
-      left (boxed s) _ (right (validShape (s .start)) _ (right (validShape (s .high)) _ (right (validShape (s .low)) _ (left (validShapes s) _ (asked t)))))
+      left (isBoxedOf s) _ (right (validShapeOf (s .start)) _ (right (validShapeOf (s .high)) _ (right (validShapeOf (s .low)) _ (left (validShapesOf s) _ (asked t)))))
 
-  rate-boxed : admits r cs es ≡ true → boxed (r .rate) ≡ true
-  unfolding validRates
+  rate-boxed : admittedOf r cs es ≡ true → isBoxedOf (r .rate) ≡ true
+  unfolding validRatesOf
   rate-boxed t =
       let s = r .rate in
-      left (boxed s) _ (right (positive (s .start)) _ (right (positive (s .high)) _ (right (positive (s .low)) _ (left (validRates s) _ (right (validShapes (r .shape)) _ (asked t))))))
+      left (isBoxedOf s) _ (right (isPositiveOf (s .start)) _ (right (isPositiveOf (s .high)) _ (right (isPositiveOf (s .low)) _ (left (validRatesOf s) _ (right (validShapesOf (r .shape)) _ (asked t))))))
 
   -- the starting likelihood of crates/counts_fit/specs/Claims.antt is the objective's, at the start as the request has it
-  pub starting-objective : admits r cs es ≡ true → objectiveOf (r .shape .start) (r .rate .start) cs es .nll ≡ startingOf r cs es
-  unfolding admits validRequest validShapes validRates objectiveOf objective inFull
+  pub starting-objective : admittedOf r cs es ≡ true → objectiveOf (r .shape .start) (r .rate .start) cs es .nll ≡ startingOf r cs es
+  unfolding admittedOf validRequestOf validShapesOf validRatesOf objectiveOf objective inFull
   starting-objective t =
       let s = r .shape in
       let q = r .rate in
-      let a = left (validShape (s .start)) _ (right (validShape (s .high)) _ (right (validShape (s .low)) _ (left (validShapes s) _ (asked t)))) in
-      let b = left (positive (q .start)) _ (right (positive (q .high)) _ (right (positive (q .low)) _ (left (validRates q) _ (right (validShapes s) _ (asked t))))) in
-      let c = right (validRequest r) (validRows cs es) (left (validRequest r && validRows cs es) _ t) in
+      let a = left (validShapeOf (s .start)) _ (right (validShapeOf (s .high)) _ (right (validShapeOf (s .low)) _ (left (validShapesOf s) _ (asked t)))) in
+      let b = left (isPositiveOf (q .start)) _ (right (isPositiveOf (q .high)) _ (right (isPositiveOf (q .low)) _ (left (validRatesOf q) _ (right (validShapesOf s) _ (asked t))))) in
+      let c = right (validRequestOf r) (validRowsOf cs es) (left (validRequestOf r && validRowsOf cs es) _ t) in
       rw (a, b, c)
 
   reports-within : Always (λ (p : Report). Within (p .shape) (r .shape)) (fit r cs es)
   unfolding fit
   reports-within =
-      tested (admits r cs es)
+      tested (admittedOf r cs es)
       (λ t. passed (reports-evaluated (planeOf (planeFor r)) (λ q. valueAt cs es (q .at)) (λ s v. isNan (expOf (s .x)) ≡ false) (λ q. evaluate-shaped (q .at .x) (q .at .y) cs es (admitted-passed r cs es t .rows .some)) (startOf r)) (λ d n. holds (clamped (d .x .x) (r .shape) (shape-boxed t) n)))
       (λ t. refuses)
 
@@ -74,5 +74,5 @@ module _ (r : Request) (cs : List ℕ) (es : List Float) where
   shape-within h = let a = answered r cs es (λ t. tt) reports-within h in rw (ap (λ f. f .shape) (a .is)) (a .has)
 
   -- the rate, where the exponential of the reported coordinate is a number
-  pub rate-within : admits r cs es ≡ true → (h : fitOf r cs es .end ≡ Answered) → isNan (expOf (ends r cs es h .d .x .y)) ≡ false → Within (fitOf r cs es .rate) (r .rate)
+  pub rate-within : admittedOf r cs es ≡ true → (h : fitOf r cs es .end ≡ Answered) → isNan (expOf (ends r cs es h .d .x .y)) ≡ false → Within (fitOf r cs es .rate) (r .rate)
   rate-within t h n = rw (ap (λ f. f .rate) (ends r cs es h .is)) (clamped (ends r cs es h .d .x .y) (r .rate) (rate-boxed t) n)

@@ -14,11 +14,11 @@ use Rattle.descent.specs.Status.{awaitsOf, takenOf}
 use Rattle.value.specs.declared.Totals.{Totals}
 use Rattle.step.specs.Step.{stillOf}
 use Rattle.trial.specs.declared.watch.Watch.{Watch}
-use Rattle.trial.specs.Judged.{normAt, judgedOf, idleOf}
+use Rattle.trial.specs.Judged.{normAtOf, judgedOf, idleOf}
 use Rattle.trial.specs.Watch.{notedOf}
 use Rattle.stepper.specs.declared.Plan.{Plan}
 use Rattle.stepper.specs.declared.Stepper.{Stepper}
-use Rattle.stepper.specs.Machine.{directionAt, oneMore, beginOf, lineOf, halvedOf, failedOf, nextOf, slopeAt, offeredOf, proposeFrom, proposeOf, arriveOf, tellOf}
+use Rattle.stepper.specs.Machine.{directionAtOf, oneMoreOf, beginOf, lineOf, halvedOf, failedOf, nextOf, slopeAt, offeredOf, proposeFrom, proposeOf, arriveOf, tellOf}
 
 impossible : {Z : Type 0} → _≡_ {A = Bool} false true → Z
 impossible e = let z : _≡_ {A = ℕ} 0 1 = cc in absurd (omega arith)
@@ -39,8 +39,8 @@ module _ (p : Plan) where
   fails : (e : ℕ) {Z : Type 0} → awaitsOf (failedOf (p .most .0) e) ≡ true → Z
   fails e t = impossible (rw (stopped (p .most .0) e) at t)
 
-  one-more : (e most : ℕ) → e < most → oneMore e most ≡ e + 1
-  unfolding oneMore
+  one-more : (e most : ℕ) → e < most → oneMoreOf e most ≡ e + 1
+  unfolding oneMoreOf
   one-more e most h = rw (lt-ltb e most h)
 
   proposes : (n : ℕ) (s : Stepper) → More (s .evaluations .0) (proposeFrom p n s)
@@ -56,8 +56,8 @@ module _ (p : Plan) where
   arrives : (x : List Float) (v : Totals) (e k : ℕ) (w : Watch) → More e (arriveOf p x v e k w)
   unfolding arriveOf proposeOf
   arrives x v e k w =
-      let s = lineOf (directionAt (p .lo) (p .hi) x v) x v e k w in
-      chosen (More e) (le (normAt (p .lo) (p .hi) x v) (p .tolerance)) (λ h. λ t. impossible t)
+      let s = lineOf (directionAtOf (p .lo) (p .hi) x v) x v e k w in
+      chosen (More e) (le (normAtOf (p .lo) (p .hi) x v) (p .tolerance)) (λ h. λ t. impossible t)
       (λ h.
       chosen (More e) (leb (p .most .0) e) (λ h. λ t. impossible t)
       (λ h. chosen (More e) (leb (p .turns .0) k) (λ h. λ t. impossible t) (λ h. proposes 48 s)))
@@ -68,7 +68,7 @@ module _ (p : Plan) where
       let e = s .evaluations .0 in
       let j = judgedOf (p .lo) (p .hi) (s .x) (s .v) (s .next) c in
       chosen (More e) (s .phase .begun)
-      (λ h. chosen (More e) (takenOf j) (λ h. arrives (s .next) c e (oneMore (s .iterations .0) (p .turns .0)) (notedOf j (s .watch))) (λ h. proposes (s .left) (halvedOf s j)))
+      (λ h. chosen (More e) (takenOf j) (λ h. arrives (s .next) c e (oneMoreOf (s .iterations .0) (p .turns .0)) (notedOf j (s .watch))) (λ h. proposes (s .left) (halvedOf s j)))
       (λ h. arrives (s .next) c e (s .iterations .0) (s .watch))
 
 -- ---- with n passes for each evaluation: those before the one that is awaited

@@ -7,7 +7,7 @@ use Rattle.work.specs.declared.Ending.the-variants.{Answered}
 use Rattle.work.specs.Given.{Always, holds, refuses, tested, passed}
 use Rattle.descent.specs.Stopping.{ByRule, by-rule, stops}
 use Rattle.exposure.specs.declared.request.Request.{Request}
-use Rattle.exposure.specs.Request.{admits}
+use Rattle.exposure.specs.Request.{admittedOf}
 use Rattle.exposure.specs.Passed.{admitted-passed}
 use Rattle.plane.specs.Plane.{planeOf}
 use Rattle.counts_fit.specs.Fit.{Report, startOf, planeFor, valueAt, fit, fitOf}
@@ -20,7 +20,7 @@ module _ (r : Request) (cs : List ℕ) (es : List Float) where
   pub fit-stops : Always (Stopped r) (fit r cs es)
   unfolding fit
   fit-stops =
-      tested (admits r cs es)
+      tested (admittedOf r cs es)
       (λ t. passed (stops (planeOf (planeFor r)) (λ q. valueAt cs es (q .at)) (admitted-passed r cs es t .controls .some) (startOf r)) (λ d s. holds (by-rule _ _ _ _ _ _ _ (s .status) (s .within-evaluations) (s .within-iterations))))
       (λ t. refuses)
 

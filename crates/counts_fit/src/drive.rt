@@ -7,7 +7,7 @@ ghost use mathlib.Core.Path.{_≡_};
 ghost use Prim.Native.Nat.{_≤_, _*_};
 ghost use lib.ListN.{length};
 ghost use Rattle.exposure.specs.Rows.{eventsOf};
-ghost use Rattle.counts_fit.specs.Among.{amongOf, drivenOf};
+ghost use Rattle.counts_fit.specs.Among.{valueAtOf, runOf};
 
 pub struct Value {
     pub end: Ending,
@@ -17,7 +17,7 @@ pub struct Value {
 
 fn value_at(x: [f64; 4], counts: &[u32], exposures: &[f64]) -> Value
     requires { ⌜ (length (now counts) ≤ 4096) × (length (now counts) ≤ length (now exposures)) ⌝ }
-    ensures { λ r. ⌜ r ≡ amongOf (now (counts .entry)) (now (exposures .entry)) x ⌝ }
+    ensures { λ r. ⌜ r ≡ valueAtOf (now (counts .entry)) (now (exposures .entry)) x ⌝ }
 {
     let o = counts::sum::evaluated(x[1], x[3], counts, exposures);
     let end = o.end;
@@ -32,7 +32,7 @@ fn value_at(x: [f64; 4], counts: &[u32], exposures: &[f64]) -> Value
 // What the passes of all evaluations come to was checked, so the sum needs no test.
 pub fn run(counts: &[u32], exposures: &[f64], p: Plan, x: [f64; 4]) -> Course
     requires { ⌜ (length (now counts) ≤ 4096) × (length (now counts) ≤ length (now exposures)) × (1 ≤ p .most .0) × (p .most .0 * eventsOf (now counts) ≤ 20000000) ⌝ }
-    ensures { λ r. ⌜ r ≡ drivenOf (now (counts .entry)) (now (exposures .entry)) p x ⌝ }
+    ensures { λ r. ⌜ r ≡ runOf (now (counts .entry)) (now (exposures .entry)) p x ⌝ }
 {
     let mut s = stepper::begin(x, 0);
     let mut used: u64 = 0;

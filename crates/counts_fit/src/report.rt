@@ -10,9 +10,9 @@ use work::FitEvaluations;
 use work::Iterations;
 ghost use mathlib.Core.Path.{_≡_};
 ghost use mathlib.Core.Bool.{true};
-ghost use Rattle.exposure.specs.Request.{admits};
+ghost use Rattle.exposure.specs.Request.{admittedOf};
 ghost use Rattle.plane.specs.Among.{placed, planOf};
-ghost use Rattle.counts_fit.specs.Fit.{lowOf, highOf, startOf, planeFor, naturalOf, onBound, refusedOf, fitOf};
+ghost use Rattle.counts_fit.specs.Fit.{lowOf, highOf, startOf, planeFor, naturalOf, onBoundOf, refusedOf, fitOf};
 ghost use Rattle.counts_fit.specs.Among.{reportedOf};
 
 // `active` marks shape and rate where their logarithm lies on that of a bound.
@@ -99,7 +99,7 @@ fn natural(x: f64, r: Range) -> f64
 }
 
 fn on_bound(x: f64, r: Range) -> bool
-    ensures { λ b. ⌜ b ≡ onBound x r ⌝ }
+    ensures { λ b. ⌜ b ≡ onBoundOf x r ⌝ }
 {
     let low = elementary::log::log(r.low);
     let high = elementary::log::log(r.high);
@@ -144,7 +144,7 @@ fn reported(r: Request, n: u64, d: Course) -> Fit
 }
 
 fn fit_admitted(r: Request, counts: &[u32], exposures: &[f64]) -> Fit
-    requires { ⌜ admits r (now counts) (now exposures) ≡ true ⌝ }
+    requires { ⌜ admittedOf r (now counts) (now exposures) ≡ true ⌝ }
     ensures { λ f. ⌜ f ≡ fitOf r (now (counts .entry)) (now (exposures .entry)) ⌝ }
 {
     let n = counts.len();

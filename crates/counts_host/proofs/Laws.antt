@@ -9,61 +9,62 @@ use lib.ListN.{length}
 use lib.Ieee.{Float}
 use Rattle.num.specs.Choose.{then, else, by-not-false, by-not-true}
 use Rattle.work.specs.Ended.{numberOf}
-use Rattle.put.specs.Stored.{stored}
+use Rattle.store.specs.Stored.{stored}
 use Rattle.exposure.specs.declared.request.Request.{Request}
 use Rattle.exposure.specs.Passed.{left, right}
 use Rattle.counts.specs.declared.sum.Objective.{Objective}
 use Rattle.counts_fit.specs.declared.report.Fit.{Fit}
 use Rattle.counts_fit.specs.Fit.{fitOf}
-use Rattle.counts_host.specs.Host.{Given, given, objectiveRoom, objectiveNumbers, objectiveCounts, objectivePut, objectiveGiven, fitRoom, fitNumbers, fitCounts, fitPut, fitGiven}
+use Rattle.counts_host.specs.Host.{objectiveRoomOf, objectiveNumbersOf, objectiveCountsOf, putObjectiveOf, objectiveGiven, fitRoomOf, fitNumbersOf, fitCountsOf, putFitOf, fitGiven}
+use Rattle.store.specs.Given.{Given, given}
 
-pub put-objective-is : (o : Objective) (l m v : List Float) (c d w : List ℕ) (r : ℕ) → v ≡ objectiveNumbers o → w ≡ objectiveCounts o → m ≡ stored l v → d ≡ stored c w → r ≡ numberOf (o .end) → given r m d ≡ objectivePut o l c
-unfolding objectivePut
+pub put-objective-is : (o : Objective) (l m v : List Float) (c d w : List ℕ) (r : ℕ) → v ≡ objectiveNumbersOf o → w ≡ objectiveCountsOf o → m ≡ stored l v → d ≡ stored c w → r ≡ numberOf (o .end) → given r m d ≡ putObjectiveOf o l c
+unfolding putObjectiveOf
 put-objective-is o l m v c d w r a b p q e = rw (p, q, e, a, b)
 
-pub put-fit-is : (f : Fit) (l m v : List Float) (c d w : List ℕ) (r : ℕ) → v ≡ fitNumbers f → w ≡ fitCounts f → m ≡ stored l v → d ≡ stored c w → r ≡ numberOf (f .end) → given r m d ≡ fitPut f l c
-unfolding fitPut
+pub put-fit-is : (f : Fit) (l m v : List Float) (c d w : List ℕ) (r : ℕ) → v ≡ fitNumbersOf f → w ≡ fitCountsOf f → m ≡ stored l v → d ≡ stored c w → r ≡ numberOf (f .end) → given r m d ≡ putFitOf f l c
+unfolding putFitOf
 put-fit-is f l m v c d w r a b p q e = rw (p, q, e, a, b)
 
 -- ---- a test of lengths that passed
-module _ (p q : ℕ) (t : Bool) (e : t ≡ objectiveRoom p q) (h : not t ≡ false) where
+module _ (p q : ℕ) (t : Bool) (e : t ≡ objectiveRoomOf p q) (h : not t ≡ false) where
   pub objective-numbers : 7 ≤ p
-  unfolding objectiveRoom
+  unfolding objectiveRoomOf
   objective-numbers = leb-true 7 p (left (leb 7 p) _ (by-not-true t _ e h))
 
   pub objective-counts : 2 ≤ q
-  unfolding objectiveRoom
+  unfolding objectiveRoomOf
   objective-counts = leb-true 2 q (right (leb 7 p) _ (by-not-true t _ e h))
 
-module _ (b p q : ℕ) (t : Bool) (e : t ≡ fitRoom b p q) (h : not t ≡ false) where
+module _ (b p q : ℕ) (t : Bool) (e : t ≡ fitRoomOf b p q) (h : not t ≡ false) where
   pub fit-bounds : b ≡ 6
-  unfolding fitRoom
+  unfolding fitRoomOf
   fit-bounds = eqb-true b 6 (left (eqb b 6) _ (by-not-true t _ e h))
 
   pub fit-numbers : 4 ≤ p
-  unfolding fitRoom
+  unfolding fitRoomOf
   fit-numbers = leb-true 4 p (left (leb 4 p) _ (right (eqb b 6) _ (by-not-true t _ e h)))
 
   pub fit-counts : 8 ≤ q
-  unfolding fitRoom
+  unfolding fitRoomOf
   fit-counts = leb-true 8 q (right (leb 4 p) _ (right (eqb b 6) _ (by-not-true t _ e h)))
 
 -- ---- the calls
-module _ (o : Objective) (l : List Float) (c : List ℕ) (t : Bool) (e : t ≡ objectiveRoom (length l) (length c)) where
+module _ (o : Objective) (l : List Float) (c : List ℕ) (t : Bool) (e : t ≡ objectiveRoomOf (length l) (length c)) where
   pub objective-short : not t ≡ true → given 1 l c ≡ objectiveGiven o l c
   unfolding objectiveGiven
   objective-short h = else _ _ _ _ (by-not-false t _ e h) refl
 
-  pub objective-is : (g : Given) (u : Objective) → not t ≡ false → u ≡ o → g ≡ objectivePut u l c → g ≡ objectiveGiven o l c
+  pub objective-is : (g : Given) (u : Objective) → not t ≡ false → u ≡ o → g ≡ putObjectiveOf u l c → g ≡ objectiveGiven o l c
   unfolding objectiveGiven
   objective-is g u h i p = then _ _ _ _ (by-not-true t _ e h) (rw i at p)
 
-module _ (f : Fit) (b l : List Float) (c : List ℕ) (t : Bool) (e : t ≡ fitRoom (length b) (length l) (length c)) where
+module _ (f : Fit) (b l : List Float) (c : List ℕ) (t : Bool) (e : t ≡ fitRoomOf (length b) (length l) (length c)) where
   pub fit-short : not t ≡ true → given 1 l c ≡ fitGiven f b l c
   unfolding fitGiven
   fit-short h = else _ _ _ _ (by-not-false t _ e h) refl
 
-  pub fit-is : (g : Given) (u : Fit) → not t ≡ false → u ≡ f → g ≡ fitPut u l c → g ≡ fitGiven f b l c
+  pub fit-is : (g : Given) (u : Fit) → not t ≡ false → u ≡ f → g ≡ putFitOf u l c → g ≡ fitGiven f b l c
   unfolding fitGiven
   fit-is g u h i p = then _ _ _ _ (by-not-true t _ e h) (rw i at p)
 

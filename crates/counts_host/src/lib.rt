@@ -11,18 +11,19 @@ ghost use Prim.Native.Nat.{_≤_};
 ghost use lib.ListN.{length};
 ghost use Rattle.counts.specs.Objective.{objectiveOf};
 ghost use Rattle.counts_fit.specs.Fit.{fitOf};
-ghost use Rattle.counts_host.specs.Host.{given, objectiveRoom, objectiveNumbers, objectiveCounts, objectivePut, objectiveGiven, fitRoom, fitNumbers, fitCounts, fitPut, fitGiven, requestOf};
+ghost use Rattle.counts_host.specs.Host.{objectiveRoomOf, objectiveNumbersOf, objectiveCountsOf, putObjectiveOf, objectiveGiven, fitRoomOf, fitNumbersOf, fitCountsOf, putFitOf, fitGiven, requestOf};
+ghost use Rattle.store.specs.Given.{given};
 
 // ---- the objective
 
 fn objective_room(numbers: usize, counts: usize) -> bool
-    ensures { λ r. ⌜ r ≡ objectiveRoom numbers counts ⌝ }
+    ensures { λ r. ⌜ r ≡ objectiveRoomOf numbers counts ⌝ }
 {
     num::both(7 <= numbers, 2 <= counts)
 }
 
 fn objective_numbers(o: Objective) -> [f64; 7]
-    ensures { λ r. ⌜ r ≡ objectiveNumbers o ⌝ }
+    ensures { λ r. ⌜ r ≡ objectiveNumbersOf o ⌝ }
 {
     let g = o.gradient;
     let h = o.hessian;
@@ -30,7 +31,7 @@ fn objective_numbers(o: Objective) -> [f64; 7]
 }
 
 fn objective_counts(o: Objective) -> [u64; 2]
-    ensures { λ r. ⌜ r ≡ objectiveCounts o ⌝ }
+    ensures { λ r. ⌜ r ≡ objectiveCountsOf o ⌝ }
 {
     let end = o.end;
     [o.passes.0, work::reason(end)]
@@ -38,13 +39,13 @@ fn objective_counts(o: Objective) -> [u64; 2]
 
 fn put_objective(o: Objective, numbers: &mut [f64], counts: &mut [u64]) -> u64
     requires { ⌜ (7 ≤ length (now numbers)) × (2 ≤ length (now counts)) ⌝ }
-    ensures { λ r. ⌜ given r (now (numbers .exit)) (now (counts .exit)) ≡ objectivePut o (now (numbers .entry)) (now (counts .entry)) ⌝ }
+    ensures { λ r. ⌜ given r (now (numbers .exit)) (now (counts .exit)) ≡ putObjectiveOf o (now (numbers .entry)) (now (counts .entry)) ⌝ }
 {
     let n = objective_numbers(o);
     let c = objective_counts(o);
     let end = o.end;
-    put::numbers(&n, numbers);
-    put::counts(&c, counts);
+    store::numbers(&n, numbers);
+    store::counts(&c, counts);
     work::number(end)
 }
 
@@ -70,7 +71,7 @@ pub fn objective_in(
 // ---- the fit
 
 fn fit_room(bounds: usize, numbers: usize, counts: usize) -> bool
-    ensures { λ r. ⌜ r ≡ fitRoom bounds numbers counts ⌝ }
+    ensures { λ r. ⌜ r ≡ fitRoomOf bounds numbers counts ⌝ }
 {
     num::both(bounds == 6, num::both(4 <= numbers, 8 <= counts))
 }
@@ -97,7 +98,7 @@ fn request(b: &[f64], tolerance: f64, evaluations: u64, iterations: u64) -> Requ
 }
 
 fn fit_numbers(f: Fit) -> [f64; 4]
-    ensures { λ r. ⌜ r ≡ fitNumbers f ⌝ }
+    ensures { λ r. ⌜ r ≡ fitNumbersOf f ⌝ }
 {
     [f.shape, f.rate, f.nll, f.norm]
 }
@@ -109,7 +110,7 @@ fn mark(on: bool) -> u64
 }
 
 fn fit_counts(f: Fit) -> [u64; 8]
-    ensures { λ r. ⌜ r ≡ fitCounts f ⌝ }
+    ensures { λ r. ⌜ r ≡ fitCountsOf f ⌝ }
 {
     let status = f.status;
     let end = f.end;
@@ -128,13 +129,13 @@ fn fit_counts(f: Fit) -> [u64; 8]
 
 fn put_fit(f: Fit, numbers: &mut [f64], counts: &mut [u64]) -> u64
     requires { ⌜ (4 ≤ length (now numbers)) × (8 ≤ length (now counts)) ⌝ }
-    ensures { λ r. ⌜ given r (now (numbers .exit)) (now (counts .exit)) ≡ fitPut f (now (numbers .entry)) (now (counts .entry)) ⌝ }
+    ensures { λ r. ⌜ given r (now (numbers .exit)) (now (counts .exit)) ≡ putFitOf f (now (numbers .entry)) (now (counts .entry)) ⌝ }
 {
     let n = fit_numbers(f);
     let c = fit_counts(f);
     let end = f.end;
-    put::numbers(&n, numbers);
-    put::counts(&c, counts);
+    store::numbers(&n, numbers);
+    store::counts(&c, counts);
     work::number(end)
 }
 

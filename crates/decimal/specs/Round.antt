@@ -19,6 +19,7 @@ use lib.Ieee.Order.{drop, kept}
 use lib.Ieee.Scale.{grid, overflow, finite, round-val, round-under}
 use lib.Ieee.Bits.{ofBits-fits}
 use Rattle.num.specs.F64.{bits}
+use Rattle.num.specs.Compare.{Cmp, cmp}
 use Rattle.root.specs.Units.{units-is, plus-is}
 use Rattle.root.specs.Unique.{same-units}
 use Rattle.decimal.specs.Nearest.{Nearest, Decimal}
@@ -28,20 +29,6 @@ use Rattle.decimal.specs.Placed.{Reached, near-placed, full-of}
 use Rattle.decimal.specs.Unique.{one-decimal}
 
 -- ---- the nearest whole number
-
--- what `compare` says
-abbrev Cmp : Ordering → ℕ → ℕ → Type 0
-Cmp Ordering·lt a b = a < b
-Cmp Ordering·eq a b = a ≡ b
-Cmp Ordering·gt a b = b < a
-
-cmp : (a b : ℕ) → Cmp (compare a b) a b
-cmp a b = go (compare a b) (leb→le a b) (nleb→lt a b) (eqb→eq a b) (λ (e : a ≡ b). subst (λ (x : ℕ). T (eqb a x)) e (eqb-refl a))
-  where
-    go : (o : Ordering) → (T (isLe o) → a ≤ b) → (T (not (isLe o)) → b < a) → (T (isEq o) → a ≡ b) → (a ≡ b → T (isEq o)) → Cmp o a b
-    go Ordering·lt h k e n = lt-of-le-ne (h tt) n
-    go Ordering·eq h k e n = e tt
-    go Ordering·gt h k e n = k tt
 
 whole-of : (q r u : ℕ) (o : Ordering) → r < u → Cmp o (r * 2) u → Whole (q * u + r) u (nearest q o)
 whole-of q r u Ordering·lt h c = record { not-over = omega arith; not-under = omega arith; tie-over = λ t. absurd (omega (arith, t)); tie-under = λ t. absurd (omega (arith, t)) }

@@ -8,7 +8,7 @@ use lib.Dec.{leb}
 use lib.Ieee.{Float, binary64, le, ofBits}
 use lib.Ieee.Bits.{ofBits-fits}
 use Rattle.num.specs.F64.{zero·, half·, one·, _⊗_}
-use Rattle.num.specs.Helpers.{isFinite}
+use Rattle.num.specs.Helpers.{isFiniteOf}
 use Rattle.order.specs.Numbers.{zero-finite, between-finite}
 use Rattle.order.specs.Order.{le-then-le, eq-le}
 use Rattle.order.specs.Products.{mul-number, mul-swap, mul-not-below, mul-left, mul-one}
@@ -26,12 +26,12 @@ record Share (a : Float) : Type 0 where
   low : le zero· a ≡ true
   high : le a one· ≡ true
 
-one-finite : isFinite one· ≡ true
-unfolding isFinite ofBits
+one-finite : isFiniteOf one· ≡ true
+unfolding isFiniteOf ofBits
 one-finite = refl
 
-half-finite : isFinite half· ≡ true
-unfolding isFinite ofBits
+half-finite : isFiniteOf half· ≡ true
+unfolding isFiniteOf ofBits
 half-finite = refl
 
 one-share : Share one·
@@ -55,7 +55,7 @@ share-within (suc k) =
       high = le-then-le _ _ _ (mul-left a half· one· i half-finite one-finite (half-share .low) (s .high)) unit;
     }
 
-pub share-finite : (k : ℕ) → isFinite (shareOf k) ≡ true
+pub share-finite : (k : ℕ) → isFiniteOf (shareOf k) ≡ true
 share-finite k = between-finite zero· (shareOf k) one· zero-finite one-finite (share-within k .low) (share-within k .high)
 
 module _ {X O D : Type 0} (p : Problem X O D) (Q : X → O → Type 0) (I : X → Type 0) where

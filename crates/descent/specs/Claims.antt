@@ -9,7 +9,7 @@ use lib.ListN.{length}
 use lib.Ieee.{Float, binary64, lt, le, isNan, fits, ofBits, mul}
 use lib.Ieee.Bits.{ofBits-fits}
 use Rattle.num.specs.F64.{_⊕_, _⊗_, zero·, half·, one·}
-use Rattle.num.specs.Helpers.{absOf, isFinite}
+use Rattle.num.specs.Helpers.{absOf, isFiniteOf}
 use Rattle.order.specs.Numbers.{finite-number, zero-finite, le-left, le-right}
 use Rattle.order.specs.Order.{le-self, le-then-le, lt-le, not-le}
 use Rattle.order.specs.Sums.{add-not-below, sum-not-above, add-left-above, add-number-right}
@@ -100,16 +100,16 @@ unit-above : lt zero· rounding-unit ≡ true
 unfolding lt mul ofBits
 unit-above = refl
 
-unit-finite : isFinite rounding-unit ≡ true
-unfolding isFinite mul ofBits
+unit-finite : isFiniteOf rounding-unit ≡ true
+unfolding isFiniteOf mul ofBits
 unit-finite = refl
 
 one-above : le zero· one· ≡ true
 unfolding le ofBits
 one-above = refl
 
-one-finite : isFinite one· ≡ true
-unfolding isFinite ofBits
+one-finite : isFiniteOf one· ≡ true
+unfolding isFiniteOf ofBits
 one-finite = refl
 
 -- A step that is taken by its decrease does not raise the likelihood. Where there is such a bound it is no NaN, so neither is the slope.

@@ -10,7 +10,7 @@ use Rattle.posterior.specs.declared.integrand.Point.{Point}
 use Rattle.posterior.specs.Integrand.{Eval, at}
 use Rattle.value.specs.declared.Totals.{Totals}
 use Rattle.objective.specs.declared.sum.Objective.{Objective}
-use Rattle.objective.specs.Objective.{objective, limitedOf}
+use Rattle.objective.specs.Objective.{objective, limitedObjectiveOf}
 use Rattle.objective.specs.Named.{Litter, shareFor, asked, numbered}
 use Rattle.row.specs.Share.{Share}
 use Rattle.descent.specs.Descent.{Descended, descent}
@@ -19,9 +19,6 @@ use Rattle.stepper.specs.Machine.{problemOf}
 use Rattle.course.specs.declared.Course.{Course}
 use Rattle.course.specs.Drives.{Valued, courseOf}
 use Rattle.drive.specs.declared.Outcome.{Outcome}
-
-abbrev pub totalsIn : Objective → Totals
-totalsIn o = record { nll = o .nll; gradient = o .gradient; hessian = o .hessian; refinement = o .refinement }
 
 abbrev pub valueAt : List Pair → List ℕ → List Float → Work Eval Point Totals
 valueAt rule ls x = objective rule x ls
@@ -42,6 +39,6 @@ unfoldable pub runOf : List Pair → List ℕ → Plan → ℕ → ℕ → List 
 runOf rule ls p l n x = record { course = drivenOf rule ls p l n x; litter = refusedLitter rule ls p l x }
 
 -- what the code's objective gives
-pub valued : (rule : List Pair) (ls : List ℕ) (l used : ℕ) (x : List Float) (o : Objective) → o ≡ limitedOf rule x ls (record { 0 = l - used }) → Valued at (valueAt rule ls) l x used (o .end) (o .used .0) (totalsIn o)
-unfolding limitedOf
+pub valued : (rule : List Pair) (ls : List ℕ) (l used : ℕ) (x : List Float) (o : Objective) → o ≡ limitedObjectiveOf rule x ls (record { 0 = l - used }) → Valued at (valueAt rule ls) l x used (o .end) (o .used .0) (o .v)
+unfolding limitedObjectiveOf
 valued rule ls l used x o e = rw e (record { ending = refl; counts = refl; value = refl })

@@ -1,30 +1,15 @@
 // The descent of the probit-normal objective: ask the stepper for a point, evaluate there, tell it the value.
 use course::Course;
 use legendre::Pair;
-use objective::Objective;
 use stepper::Plan;
-use value::Totals;
 use work::QuadratureEvaluations;
 ghost use mathlib.Core.Path.{_≡_};
-ghost use Rattle.drive.specs.Drive.{totalsIn, runOf};
+ghost use Rattle.drive.specs.Drive.{runOf};
 
 // A descent that was driven to its end, and the litter at which it was refused, counted from 1: 0 where none was.
 pub struct Outcome {
     pub course: Course,
     pub litter: u64,
-}
-
-fn totals_of(o: Objective) -> Totals
-    ensures { λ r. ⌜ r ≡ totalsIn o ⌝ }
-{
-    let gradient = o.gradient;
-    let hessian = o.hessian;
-    Totals {
-        nll: o.nll,
-        gradient,
-        hessian,
-        refinement: o.refinement,
-    }
 }
 
 pub fn run(
@@ -61,7 +46,8 @@ pub fn run(
                 litter: n.litter,
             };
         }
-        let t = stepper::tell(p, s, totals_of(o));
+        let v = o.v;
+        let t = stepper::tell(p, s, v);
         s = t;
         used = spent;
     }

@@ -65,8 +65,8 @@ abbrev pub sin23 : Float
 sin23 = bits 0xbb47_61b4_1316_381a
 
 -- y + y³ (S3 + S5 y² + ..)
-abbrev pub sinNear : Float → Float
-sinNear y =
+abbrev pub sinNearOf : Float → Float
+sinNearOf y =
     let z = y ⊗ y in
     let s = series (sin3 ∷ sin5 ∷ sin7 ∷ sin9 ∷ sin11 ∷ sin13 ∷ sin15 ∷ sin17 ∷ sin19 ∷ sin21 ∷ sin23 ∷ []) z in
     y ⊕ (y ⊗ z) ⊗ s
@@ -78,5 +78,5 @@ cosOf x =
     let v = a ⊗ cos-invpi in
     let w = (v ⊖ half·) ⊕ cos-m in
     let m = (w ⊖ cos-m) ⊕ half· in
-    let b = sinNear (((a ⊖ m ⊗ cos-p1) ⊖ m ⊗ cos-p2) ⊖ m ⊗ cos-p3) in
+    let b = sinNearOf (((a ⊖ m ⊗ cos-p1) ⊖ m ⊗ cos-p2) ⊖ m ⊗ cos-p3) in
     cond (lt w cos-end) (cond (eqb (bitsOf w % 2) 0) (neg b) b) nan

@@ -5,7 +5,7 @@ use Prim.Native.Nat.{_%_}
 use lib.Ieee.{Float, neg, lt, ne}
 use Rattle.num.specs.F64.{_⊕_, _⊖_, _⊗_, _⊘_, bits, bitsOf, zero·, one·, two·, six·}
 use Rattle.tables.specs.declared.erfc.ErfcRow.{ErfcRow}
-use Rattle.tables.specs.Erfc.{erfcRow}
+use Rattle.tables.specs.Erfc.{erfcRowOf}
 use Rattle.elementary.specs.Series.{series}
 use Rattle.elementary.specs.Exp.{expLow}
 
@@ -49,20 +49,20 @@ erfcAtRow row a =
     let s = (row .a9 ⊕ h ⊗ row .a10) ⊕ h2 ⊗ row .a11 in
     row .value ⊕ h ⊗ ((p ⊕ h4 ⊗ q) ⊕ (h4 ⊗ h4) ⊗ s)
 
-abbrev pub erfcSeries : Float → Float
-erfcSeries u = series erfc-series u
+abbrev pub erfcBySeries : Float → Float
+erfcBySeries u = series erfc-series u
 
 -- exp(-a²) by exp(-z²) and exp(z² - a²), where z is a to a multiple of 2^-19
 unfoldable pub erfcTail : Float → Float
 erfcTail a =
     let z = (a ⊕ tail-m) ⊖ tail-m in
     let g = (z ⊖ a) ⊗ (z ⊕ a) in
-    let s = erfcSeries (one· ⊘ (a ⊗ a)) in
+    let s = erfcBySeries (one· ⊘ (a ⊗ a)) in
     cond (lt a (bits 0x403c_0000_0000_0000)) (expLow (neg (z ⊗ z)) g ⊗ (s ⊘ a)) (cond (ne a a) a zero·)
 
 -- of an a that is not below zero
-unfoldable pub erfcPos : Float → Float
-erfcPos a = let w = a ⊕ erfc-m in cond (lt w erfc-end) (erfcAtRow (erfcRow (bitsOf w % 128)) a) (erfcTail a)
+unfoldable pub erfcPosOf : Float → Float
+erfcPosOf a = let w = a ⊕ erfc-m in cond (lt w erfc-end) (erfcAtRow (erfcRowOf (bitsOf w % 128)) a) (erfcTail a)
 
 unfoldable pub erfcOf : Float → Float
-erfcOf x = cond (lt x (neg six·)) two· (cond (lt x zero·) (two· ⊖ erfcPos (neg x)) (erfcPos x))
+erfcOf x = cond (lt x (neg six·)) two· (cond (lt x zero·) (two· ⊖ erfcPosOf (neg x)) (erfcPosOf x))

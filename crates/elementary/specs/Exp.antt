@@ -5,7 +5,7 @@ use lib.Dec.{ltb}
 use lib.Ieee.{Float, neg, lt}
 use Rattle.num.specs.F64.{_⊕_, _⊖_, _⊗_, bits, bitsOf, zero·, one·, infinity·}
 use Rattle.tables.specs.declared.exp.ExpRow.{ExpRow}
-use Rattle.tables.specs.Exp.{expRow}
+use Rattle.tables.specs.Exp.{expRowOf}
 
 -- 64 / ln 2
 abbrev pub exp-inv : Float
@@ -116,7 +116,7 @@ expFar t p e =
 -- 2^((m - 131072) / 64) exp r
 unfoldable pub expFinish : ℕ → Float → Float
 expFinish m r =
-    let row = expRow (m % 64) in
+    let row = expRowOf (m % 64) in
     let e = m / 64 in
     let p = expPoly (row .rest) r in
     cond (ltb e 1100) (expFar (row .value) p e) (cond (ltb 3070 e) (expFar (row .value) p e) (expScaled (row .value) (bits ((e - 1025) * 2 ^ 52)) p))

@@ -18,8 +18,8 @@ large· = bits 0x5fd0_0000_0000_0000
 abbrev pub small· : Float
 small· = bits 0x23d0_0000_0000_0000
 
-unfoldable pub scaledLength : Float → Float → Float → Float → Float
-scaledLength a b there back = let x = a ⊗ there in let y = b ⊗ there in sqrtOf (x ⊗ x ⊕ y ⊗ y) ⊗ back
+unfoldable pub scaledLengthOf : Float → Float → Float → Float → Float
+scaledLengthOf a b there back = let x = a ⊗ there in let y = b ⊗ there in sqrtOf (x ⊗ x ⊕ y ⊗ y) ⊗ back
 
 unfoldable pub hypotOf : Float → Float → Float
 hypotOf a b =
@@ -28,5 +28,5 @@ hypotOf a b =
     let h = cond (lt y x) x y in
     cond (eq x infinity·) infinity·
     (cond (eq y infinity·) infinity·
-    (cond (lt large· h) (scaledLength x y down· up·)
-    (cond (lt h small·) (scaledLength x y up· down·) (sqrtOf (x ⊗ x ⊕ y ⊗ y)))))
+    (cond (lt large· h) (scaledLengthOf x y down· up·)
+    (cond (lt h small·) (scaledLengthOf x y up· down·) (sqrtOf (x ⊗ x ⊕ y ⊗ y)))))

@@ -82,8 +82,8 @@ lgammaByProduct x =
     cond (eq (f .y) one·) l (cond (eq (f .y) zero·) l (l ⊕ (f .y ⊗ (f .y ⊖ one·)) ⊗ lgammaPoly (f .y ⊖ half·)))
 
 -- (x - 1/2) (log x - 1) + (log 2π - 1) / 2 + 1/12x - .., with log x in two parts; the product with the part that is a multiple of 2^-26 is exact at a whole x below 2^22
-abbrev pub stirling : Float → Float → Float → Float
-stirling x hi lo =
+abbrev pub lgammaByStirling : Float → Float → Float → Float
+lgammaByStirling x hi lo =
     let a = x ⊖ half· in
     let h = hi ⊖ one· in
     let hs = (h ⊕ lgam-m) ⊖ lgam-m in
@@ -98,4 +98,4 @@ lgammaOf x =
     let l = logParts (bitsOf x) log-bias in
     cond (lt x one·) (lgammaBelowOne x)
     (cond (lt x (bits 0x4037_8000_0000_0000)) (lgammaByProduct x)
-    (cond (lt x infinity·) (stirling x (l .hi) (l .lo)) x))
+    (cond (lt x infinity·) (lgammaByStirling x (l .hi) (l .lo)) x))

@@ -5,7 +5,7 @@ use lib.Count.{leadingZeros}
 use lib.Ieee.{Float, nan, neg, lt, eq}
 use Rattle.num.specs.F64.{_⊕_, _⊖_, _⊗_, whole, bits, bitsOf, zero·, infinity·}
 use Rattle.tables.specs.declared.log.LogRow.{LogRow}
-use Rattle.tables.specs.Log.{logRow}
+use Rattle.tables.specs.Log.{logRowOf}
 use Rattle.elementary.specs.declared.log_parts.LogParts.{LogParts}
 
 -- the bits where the range of the reduced number z begins, about 0.698, and the bits of 1 less those
@@ -61,7 +61,7 @@ logAt t sub row =
 
 -- the row for t
 abbrev pub logRowAt : ℕ → LogRow
-logRowAt t = logRow (t % 2 ^ 52 / 2 ^ 46)
+logRowAt t = logRowOf (t % 2 ^ 52 / 2 ^ 46)
 
 unfoldable pub logParts : ℕ → Float → LogParts
 logParts b sub = let t = b + log-d in logAt t sub (logRowAt t)

@@ -1,6 +1,11 @@
 // The cosine, as a sine from the nearest odd multiple of π / 2.
+// Method: the multiple is taken off by π in three parts, and the sine is its power series to y^23 / 23!.
+// Error: the largest found is 0.60 units in the last place, of the sixteen points π (k - 1/4) / 16.5 at which the
+// engine calls it. At other arguments it is held to no limit.
+// Special cases: NaN and both infinities give NaN, and so does every number from 823549.6645826427 up and from its
+// negative down, where the parts of π no longer serve; a zero, and a number below normal, gives 1.
 ghost use mathlib.Core.Path.{_≡_};
-ghost use Rattle.elementary.specs.Cos.{cosOf, sinNear};
+ghost use Rattle.elementary.specs.Cos.{cosOf, sinNearOf};
 
 const COS_INVPI: f64 = 0.3183098861837907;
 // 1.5 · 2^52, which added to a number rounds it to a whole one; that and 262144, the sum from which there is no answer.
@@ -37,7 +42,7 @@ const SIN21: f64 = 1.9572941063391263e-20;
 const SIN23: f64 = -3.868170170630684e-23;
 
 fn sin_near(y: f64) -> f64
-    ensures { λ r. ⌜ r ≡ sinNear y ⌝ }
+    ensures { λ r. ⌜ r ≡ sinNearOf y ⌝ }
 {
     let z = y * y;
     let s = SIN3

@@ -1,6 +1,13 @@
-// The complementary error function: rows of fitted polynomials up to 5.72, a series in 1 / a² times an exponential beyond.
+// The complementary error function: rows of polynomials up to 5.72, a series in 1 / a² times an exponential beyond.
+// Method: a row serves the numbers within 1/32 of a multiple of 1/16, by a polynomial of degree 11 about its centre.
+// Beyond, exp(-a²) / a times a polynomial of degree 12 in 1 / a², where a² is the exact square of a rounded a and what
+// that leaves. Below zero it is 2 less erfc of -x.
+// Error: the largest found is 2.70 units in the last place, at 18.447978493698344, of 12,809,475 arguments, and 1.63 up
+// to 5.72; where the result is below normal, 1.48 times 2^-1074.
+// Special cases: NaN gives NaN, a zero 1. The result is 2 below -6, minus infinity too, and +0 from 28 up, plus
+// infinity too.
 ghost use mathlib.Core.Path.{_≡_};
-ghost use Rattle.elementary.specs.Erfc.{erfcOf, erfcPos, erfcAtRow, erfcTail, erfcSeries};
+ghost use Rattle.elementary.specs.Erfc.{erfcOf, erfcPosOf, erfcAtRow, erfcTail, erfcBySeries};
 
 // 1.5 · 2^48, which added to a number rounds it to a multiple of 1 / 16; that and 5.75, the sum from which no row serves.
 const ERFC_M: f64 = 422212465065984.0;
@@ -48,7 +55,7 @@ fn at_row(row: tables::ErfcRow, a: f64) -> f64
 }
 
 fn by_series(u: f64) -> f64
-    ensures { λ r. ⌜ r ≡ erfcSeries u ⌝ }
+    ensures { λ r. ⌜ r ≡ erfcBySeries u ⌝ }
 {
     ERFC_S0
         + u
@@ -91,7 +98,7 @@ fn tail(a: f64) -> f64
 
 // For an a that is not below zero.
 pub fn erfc_pos(a: f64) -> f64
-    ensures { λ r. ⌜ r ≡ erfcPos a ⌝ }
+    ensures { λ r. ⌜ r ≡ erfcPosOf a ⌝ }
 {
     let w = a + ERFC_M;
     if w < ERFC_END {

@@ -1,4 +1,11 @@
 // The exponential: rows of 2^(i/64) farther than 3/8 from zero, the power series nearer.
+// Method: within 3/8 of zero the series to x^14 / 14!. Farther out x is n ln 2 / 64 + r with the nearest whole n: the
+// row of n mod 64, a polynomial of degree 5 for exp r, and a power of two, put on in two steps near overflow and
+// underflow.
+// Error: the largest found is 0.67 units in the last place, within 3/8 of zero, of 11,033,870 arguments; where the
+// result is below normal, 0.76 times 2^-1074. Proved within 3/8 of zero: within 2^-48 (crates/exponential).
+// Special cases: NaN gives NaN, a zero 1, minus infinity +0, plus infinity itself. The result is plus infinity from
+// 709.7827128933841 up, and +0 from -745.1332191019412 down.
 ghost use mathlib.Core.Path.{_≡_};
 ghost use Rattle.elementary.specs.Exp.{expOf, expSmall, expSum, expReduced, expPoly, expScaled, expFar, expFinish, expLow, expBelow, expAbove, expPlace, expByRow};
 

@@ -1,6 +1,13 @@
 // The logarithm of the gamma function above zero: a product up to 23.5, Stirling's series beyond.
+// Method: from 0 to 1 lgamma (1 + y) is y (y - 1) times a polynomial of degree 21 in y - 1/2. Below 1 it is that less
+// log x; up to 23.5 it is the logarithm of (x - 1) (x - 2) .., down to a factor above 1, and lgamma (1 + y) of what is
+// left then; beyond, Stirling's series of five terms with log x in two parts.
+// Error: the largest found is 0.51 units in the last place, at 52061, of the whole numbers from 1 to 1,000,001. At
+// other arguments it is held to no limit.
+// Special cases: NaN, minus infinity and every number below zero give NaN; a zero of either sign gives plus infinity;
+// plus infinity stays; 1 and 2 give +0.
 ghost use mathlib.Core.Path.{_≡_};
-ghost use Rattle.elementary.specs.Lgamma.{lgammaOf, lgammaBelowOne, lgammaPoly, productOf, lgammaByProduct, stirling};
+ghost use Rattle.elementary.specs.Lgamma.{lgammaOf, lgammaBelowOne, lgammaPoly, productOf, lgammaByProduct, lgammaByStirling};
 
 const LGAM_C: f64 = 0.4189385332046727;
 
@@ -158,7 +165,7 @@ fn by_product(x: f64) -> f64
 }
 
 fn by_stirling(x: f64, hi: f64, lo: f64) -> f64
-    ensures { λ r. ⌜ r ≡ stirling x hi lo ⌝ }
+    ensures { λ r. ⌜ r ≡ lgammaByStirling x hi lo ⌝ }
 {
     let a = x - 0.5;
     let h = hi - 1.0;

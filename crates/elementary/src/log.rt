@@ -1,4 +1,9 @@
 // The natural logarithm.
+// Method: the sum of its two parts, which log_parts.rt finds by a row and a polynomial. The significand of a number
+// below normal is first brought up by its leading zeros.
+// Error: the largest found is 0.75 units in the last place, next to 1, of 11,995,294 arguments, some below normal.
+// Special cases: NaN, minus infinity and every number below zero give NaN; a zero of either sign gives minus infinity;
+// plus infinity stays; log 1 is +0.
 ghost use mathlib.Core.Path.{_≡_};
 ghost use Rattle.elementary.specs.Log.{logOf, logSmall, logPlace, logByRow};
 

@@ -1,4 +1,9 @@
-// The logarithm in two parts, exact and small, which `log` and `lgamma` share: a row of logarithms and a polynomial.
+// The logarithm in two parts, exact and small, for `log`, `log1p` and `lgamma`: a row of logarithms and a polynomial.
+// Method: the number is z 2^k with z from about 0.698 to twice that, and z is centre (1 + p) with the centre of its
+// row. `hi` is the sum of what is a multiple of 2^-42, and exact: of k ln 2, of the centre's logarithm and of p. `lo`
+// is the rest of each, with a polynomial of degree 7 for log (1 + p) - p.
+// Error: measured in the three functions only; their files have it.
+// Special cases: none. Each caller has tested that its number is above zero and finite.
 ghost use mathlib.Core.Path.{_≡_};
 ghost use Prim.Native.Nat.{_<_, _^_};
 ghost use Rattle.elementary.specs.Log.{logParts, logAt};

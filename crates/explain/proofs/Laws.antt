@@ -11,17 +11,18 @@ use Rattle.num.specs.F64.{bitsOf}
 use Rattle.work.specs.declared.Ending.{Ending}
 use Rattle.work.specs.Ended.{isRefused, numberOf, reasonOf}
 use Rattle.descent.specs.declared.Trial.{Trial}
-use Rattle.form.specs.Form.{render}
+use Rattle.template.specs.Template.{render}
 use Rattle.why.specs.declared.Why.{Why}
 use Rattle.why.specs.declared.Why.the-variants.{Made, Refused, Unmade}
 use Rattle.why.specs.declared.Test.{Test}
 use Rattle.why.specs.declared.Stop.{Stop}
 use Rattle.why.specs.Why.{testNumber}
 use Rattle.fit.specs.declared.report.Seen.{Seen}
-use Rattle.put.specs.Stored.{stored}
-use Rattle.buffers.specs.Buffers.{given, fitRoom, fitPut}
+use Rattle.store.specs.Stored.{stored}
+use Rattle.buffers.specs.Buffers.{fitRoomOf, putFitOf}
+use Rattle.store.specs.Given.{given}
 use Rattle.explain.specs.Lines.{numberIn, trialForm, madeText, refusedText, trialText, testText, stoppedText, endingText}
-use Rattle.explain.specs.Counts.{kindIn, madeCounts, refusedCounts, trialCounts, whyCounts, got, whyRoom, whyPut}
+use Rattle.explain.specs.Counts.{kindOf, madeCountsOf, refusedCountsOf, trialCountsOf, whyCountsOf, got, whyRoomOf, putWhyOf}
 
 -- ---- a text by another name, put in at the start
 pub from-start : (bs ds : List ℕ) (r : ℕ) → r ≡ 0 + length ds → ds ≡ bs → r ≡ length bs
@@ -56,18 +57,18 @@ module _ (s : Stop) (used : ℕ) (t : Bool) (e : t ≡ isRefused (s .end)) where
   ending-tested h = rw (← e, h)
 
 -- ---- the counts
-pub counts-why : (ds : List ℕ) (used : ℕ) (w v : Why) → w ≡ v → ds ≡ trialCounts v used → ds ≡ trialCounts w used
+pub counts-why : (ds : List ℕ) (used : ℕ) (w v : Why) → w ≡ v → ds ≡ trialCountsOf v used → ds ≡ trialCountsOf w used
 counts-why ds used w v e h = rw e h
 
-five : (w : Why) (used : ℕ) → (let c = trialCounts w used in getD c 0 0 ∷ getD c 1 0 ∷ getD c 2 0 ∷ getD c 3 0 ∷ getD c 4 0 ∷ []) ≡ trialCounts w used
+five : (w : Why) (used : ℕ) → (let c = trialCountsOf w used in getD c 0 0 ∷ getD c 1 0 ∷ getD c 2 0 ∷ getD c 3 0 ∷ getD c 4 0 ∷ []) ≡ trialCountsOf w used
 five (Made t) used = refl
 five (Refused e) used = refl
 five Unmade used = refl
 
-pub why-counts-are : (s : Seen) (c : List ℕ) (k : ℕ) → c ≡ trialCounts (s .why) (s .fit .quadrature .0) → k ≡ testNumber (s .stop .test) → (getD c 0 0 ∷ getD c 1 0 ∷ getD c 2 0 ∷ getD c 3 0 ∷ getD c 4 0 ∷ k ∷ s .stop .litter ∷ []) ≡ whyCounts s
-unfolding whyCounts
+pub why-counts-are : (s : Seen) (c : List ℕ) (k : ℕ) → c ≡ trialCountsOf (s .why) (s .fit .quadrature .0) → k ≡ testNumber (s .stop .test) → (getD c 0 0 ∷ getD c 1 0 ∷ getD c 2 0 ∷ getD c 3 0 ∷ getD c 4 0 ∷ k ∷ s .stop .litter ∷ []) ≡ whyCountsOf s
+unfolding whyCountsOf
 why-counts-are s c k e h = rw (e, h) (ap (λ l. l ++ (testNumber (s .stop .test) ∷ s .stop .litter ∷ [])) (five (s .why) (s .fit .quadrature .0)))
 
-pub put-why-is : (s : Seen) (l m : List Float) (c d q p v : List ℕ) (r : ℕ) → v ≡ whyCounts s → p ≡ stored q v → given r m d ≡ fitPut (s .fit) l c → got r m d p ≡ whyPut s l c q
-unfolding whyPut
+pub put-why-is : (s : Seen) (l m : List Float) (c d q p v : List ℕ) (r : ℕ) → v ≡ whyCountsOf s → p ≡ stored q v → given r m d ≡ putFitOf (s .fit) l c → got r m d p ≡ putWhyOf s l c q
+unfolding putWhyOf
 put-why-is s l m c d q p v r e f h = rw (f, e, h)

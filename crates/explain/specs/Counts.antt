@@ -14,33 +14,34 @@ use Rattle.why.specs.declared.Why.{Why}
 use Rattle.why.specs.declared.Why.the-variants.{Made, Refused, Unmade}
 use Rattle.why.specs.Why.{testNumber}
 use Rattle.fit.specs.declared.report.Seen.{Seen}
-use Rattle.put.specs.Stored.{stored}
-use Rattle.buffers.specs.Buffers.{Given, given, fitRoom, fitPut}
+use Rattle.store.specs.Stored.{stored}
+use Rattle.buffers.specs.Buffers.{fitRoomOf, putFitOf}
+use Rattle.store.specs.Given.{Given, given}
 use Rattle.explain.specs.Lines.{numberIn}
 
-abbrev pub kindIn : Trial → ℕ
-kindIn (NotDownhill slope) = 1
-kindIn NotMoved = 2
-kindIn (TooLittle missed) = 3
-kindIn (ByDecrease slope) = 4
-kindIn (ByRounding allowance) = 5
-kindIn CutOff = 6
+abbrev pub kindOf : Trial → ℕ
+kindOf (NotDownhill slope) = 1
+kindOf NotMoved = 2
+kindOf (TooLittle missed) = 3
+kindOf (ByDecrease slope) = 4
+kindOf (ByRounding allowance) = 5
+kindOf CutOff = 6
 
 -- kind, the bits of the number that decided, and of a trial that was not made the refusal's number, count and reason
-abbrev pub madeCounts : Trial → List ℕ
-madeCounts t = kindIn t ∷ bitsOf (numberIn t) ∷ 0 ∷ 0 ∷ 0 ∷ []
+abbrev pub madeCountsOf : Trial → List ℕ
+madeCountsOf t = kindOf t ∷ bitsOf (numberIn t) ∷ 0 ∷ 0 ∷ 0 ∷ []
 
-abbrev pub refusedCounts : Ending → ℕ → List ℕ
-refusedCounts e used = 7 ∷ 0 ∷ numberOf e ∷ used ∷ reasonOf e ∷ []
+abbrev pub refusedCountsOf : Ending → ℕ → List ℕ
+refusedCountsOf e used = 7 ∷ 0 ∷ numberOf e ∷ used ∷ reasonOf e ∷ []
 
-abbrev pub trialCounts : Why → ℕ → List ℕ
-trialCounts (Made t) used = madeCounts t
-trialCounts (Refused e) used = refusedCounts e used
-trialCounts Unmade used = 0 ∷ 0 ∷ 1 ∷ 0 ∷ 0 ∷ []
+abbrev pub trialCountsOf : Why → ℕ → List ℕ
+trialCountsOf (Made t) used = madeCountsOf t
+trialCountsOf (Refused e) used = refusedCountsOf e used
+trialCountsOf Unmade used = 0 ∷ 0 ∷ 1 ∷ 0 ∷ 0 ∷ []
 
 -- after them the test that stopped the fit, and the litter at which it was refused
-unfoldable pub whyCounts : Seen → List ℕ
-whyCounts s = trialCounts (s .why) (s .fit .quadrature .0) ++ (testNumber (s .stop .test) ∷ s .stop .litter ∷ [])
+unfoldable pub whyCountsOf : Seen → List ℕ
+whyCountsOf s = trialCountsOf (s .why) (s .fit .quadrature .0) ++ (testNumber (s .stop .test) ∷ s .stop .litter ∷ [])
 
 -- ---- a host's buffers: those of a fit, and seven places more
 
@@ -51,13 +52,13 @@ pub record Got : Type 0 where
 abbrev pub got : ℕ → List Float → List ℕ → List ℕ → Got
 got value numbers counts reasons = record { fit = given value numbers counts; reasons = reasons }
 
-unfoldable pub whyRoom : ℕ → ℕ → ℕ → ℕ → Bool
-whyRoom bounds numbers counts reasons = fitRoom bounds numbers counts && leb 7 reasons
+unfoldable pub whyRoomOf : ℕ → ℕ → ℕ → ℕ → Bool
+whyRoomOf bounds numbers counts reasons = fitRoomOf bounds numbers counts && leb 7 reasons
 
-unfoldable pub whyPut : Seen → List Float → List ℕ → List ℕ → Got
-whyPut s numbers counts reasons = record { fit = fitPut (s .fit) numbers counts; reasons = stored reasons (whyCounts s) }
+unfoldable pub putWhyOf : Seen → List Float → List ℕ → List ℕ → Got
+putWhyOf s numbers counts reasons = record { fit = putFitOf (s .fit) numbers counts; reasons = stored reasons (whyCountsOf s) }
 
 -- where a length is wrong: 1, and nothing is written
 unfoldable pub whyGiven : Seen → List Float → List Float → List ℕ → List ℕ → Got
 whyGiven s bounds numbers counts reasons =
-    cond (whyRoom (length bounds) (length numbers) (length counts) (length reasons)) (whyPut s numbers counts reasons) (got 1 numbers counts reasons)
+    cond (whyRoomOf (length bounds) (length numbers) (length counts) (length reasons)) (putWhyOf s numbers counts reasons) (got 1 numbers counts reasons)

@@ -12,7 +12,7 @@ use Rattle.why.specs.declared.Why.the-variants.{Made, Refused, Unmade}
 use Rattle.why.specs.declared.Test.{Test}
 use Rattle.why.specs.declared.Test.the-variants.{NoTest, Norm, Evaluations, Iterations, Halvings, Spent}
 use Rattle.why.specs.declared.Stop.{Stop}
-use Rattle.form.specs.Form.{ascii, render}
+use Rattle.template.specs.Template.{ascii, render}
 
 -- the room that every line fits
 abbrev pub line : ℕ

@@ -11,7 +11,7 @@ ghost use lib.ListN.{length};
 ghost use Rattle.num.specs.F64.{bitsOf};
 ghost use Rattle.render.specs.Written.{written};
 ghost use Rattle.explain.specs.Lines.{line, numberIn, madeText, refusedText, trialText, testText, stoppedText, endingText};
-ghost use Rattle.explain.specs.Counts.{kindIn, madeCounts, refusedCounts, trialCounts, whyCounts, whyRoom, got, whyPut};
+ghost use Rattle.explain.specs.Counts.{kindOf, madeCountsOf, refusedCountsOf, trialCountsOf, whyCountsOf, whyRoomOf, got, putWhyOf};
 
 // The number that decided a trial; 0 where none did.
 fn number(t: Trial) -> f64
@@ -98,7 +98,7 @@ pub fn ending(s: Stop, used: u64, out: &mut [u8]) -> usize
 }
 
 fn kind(t: Trial) -> u64
-    ensures { λ r. ⌜ r ≡ kindIn t ⌝ }
+    ensures { λ r. ⌜ r ≡ kindOf t ⌝ }
 {
     match t {
         Trial::NotDownhill(_) => 1,
@@ -111,21 +111,21 @@ fn kind(t: Trial) -> u64
 }
 
 fn made_counts(t: Trial) -> [u64; 5]
-    ensures { λ r. ⌜ r ≡ madeCounts t ⌝ }
+    ensures { λ r. ⌜ r ≡ madeCountsOf t ⌝ }
 {
     let bits = print::bits(number(t));
     [kind(t), bits, 0, 0, 0]
 }
 
 fn refused_counts(e: Ending, used: u64) -> [u64; 5]
-    ensures { λ r. ⌜ r ≡ refusedCounts e used ⌝ }
+    ensures { λ r. ⌜ r ≡ refusedCountsOf e used ⌝ }
 {
     [7, 0, work::number(e), used, work::reason(e)]
 }
 
 // Of a trial: its kind, the bits of the number that decided it, and where it was not made the refusal's number, count and reason.
 fn trial_counts(w: Why, used: u64) -> [u64; 5]
-    ensures { λ r. ⌜ r ≡ trialCounts w used ⌝ }
+    ensures { λ r. ⌜ r ≡ trialCountsOf w used ⌝ }
 {
     match w {
         Why::Made(t) => made_counts(t),
@@ -136,7 +136,7 @@ fn trial_counts(w: Why, used: u64) -> [u64; 5]
 
 // After them the test that stopped the fit, or 0, and the litter at which it was refused, or 0.
 fn why_counts(s: Seen) -> [u64; 7]
-    ensures { λ r. ⌜ r ≡ whyCounts s ⌝ }
+    ensures { λ r. ⌜ r ≡ whyCountsOf s ⌝ }
 {
     let f = s.fit;
     let w = s.why;
@@ -147,17 +147,17 @@ fn why_counts(s: Seen) -> [u64; 7]
 }
 
 pub fn why_room(bounds: usize, numbers: usize, counts: usize, reasons: usize) -> bool
-    ensures { λ r. ⌜ r ≡ whyRoom bounds numbers counts reasons ⌝ }
+    ensures { λ r. ⌜ r ≡ whyRoomOf bounds numbers counts reasons ⌝ }
 {
     num::both(buffers::fit_room(bounds, numbers, counts), 7 <= reasons)
 }
 
 pub fn put_why(s: Seen, numbers: &mut [f64], counts: &mut [u64], reasons: &mut [u64]) -> u64
     requires { ⌜ (6 ≤ length (now numbers)) × (10 ≤ length (now counts)) × (7 ≤ length (now reasons)) ⌝ }
-    ensures { λ r. ⌜ got r (now (numbers .exit)) (now (counts .exit)) (now (reasons .exit)) ≡ whyPut s (now (numbers .entry)) (now (counts .entry)) (now (reasons .entry)) ⌝ }
+    ensures { λ r. ⌜ got r (now (numbers .exit)) (now (counts .exit)) (now (reasons .exit)) ≡ putWhyOf s (now (numbers .entry)) (now (counts .entry)) (now (reasons .entry)) ⌝ }
 {
     let f = s.fit;
     let c = why_counts(s);
-    put::counts(&c, reasons);
+    store::counts(&c, reasons);
     buffers::put_fit(f, numbers, counts)
 }

@@ -7,7 +7,7 @@ use lib.Ieee.{Float, binary64, fits, ofBits, mul}
 use lib.Ieee.Scale.{finite}
 use Rattle.num.specs.F64.{_⊗_, one·}
 use Rattle.root.specs.Root.{units}
-use Rattle.tables.specs.Exp.{expRow, expRows}
+use Rattle.tables.specs.Exp.{expRowOf, expRows}
 use Rattle.elementary.specs.Exp.{expFinish}
 use Rattle.rounding.specs.Units.{U, signOf, value-of}
 use Rattle.rounding.specs.Beside.{N, W, U-is}
@@ -21,7 +21,7 @@ unfolding mul ofBits
 one-times-one = refl
 
 by-row : (r : Float) → expFinish 131072 r ≡ reducedSmall r
-unfolding expFinish expRow expRows
+unfolding expFinish expRowOf expRows
 by-row r = rw one-times-one
 
 few : (x : Float) → units x * 128 ≤ U → units x ≤ reduced-limit * W

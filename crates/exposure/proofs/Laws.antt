@@ -7,24 +7,24 @@ use borrow.Author.Tests.{not-true, not-false}
 use lib.ListN.{length}
 use lib.Ieee.{Float}
 use Rattle.exposure.specs.declared.request.Request.{Request}
-use Rattle.exposure.specs.Rows.{eventsOf, validRows}
-use Rattle.exposure.specs.Request.{validWork, validRequest, admits}
+use Rattle.exposure.specs.Rows.{eventsOf, validRowsOf}
+use Rattle.exposure.specs.Request.{validWorkOf, validRequestOf, admittedOf}
 use Rattle.exposure.specs.Passed.{left, right, rows-passed, request-passed}
 
-module _ (r : Request) (cs : List ℕ) (es : List Float) (f s t : Bool) (a : f ≡ validRequest r) (b : s ≡ validRows cs es) (c : t ≡ (f && s)) where
-  pub refuses : not t ≡ true → false ≡ admits r cs es
-  unfolding admits
+module _ (r : Request) (cs : List ℕ) (es : List Float) (f s t : Bool) (a : f ≡ validRequestOf r) (b : s ≡ validRowsOf cs es) (c : t ≡ (f && s)) where
+  pub refuses : not t ≡ true → false ≡ admittedOf r cs es
+  unfolding admittedOf
   refuses h = rw (← a, ← b, ← c, not-true t h)
 
-  pub goes-on : not t ≡ false → (validRequest r && validRows cs es) ≡ true
+  pub goes-on : not t ≡ false → (validRequestOf r && validRowsOf cs es) ≡ true
   goes-on h = rw (← a, ← b, ← c) (not-false t h)
 
-  pub decides : not t ≡ false → (w : Bool) → w ≡ validWork (r .evaluations .0) cs → w ≡ admits r cs es
-  unfolding admits
+  pub decides : not t ≡ false → (w : Bool) → w ≡ validWorkOf (r .evaluations .0) cs → w ≡ admittedOf r cs es
+  unfolding admittedOf
   decides h w u = rw (goes-on h) u
 
   pub bounds : not t ≡ false → (length cs ≤ 4096) × (eventsOf cs ≤ 1000000) × (r .evaluations .0 ≤ 10000)
   bounds h =
       let g = goes-on h in
-      let k = rows-passed cs es (right (validRequest r) _ g) in
-      (k .few, k .million, request-passed r (left (validRequest r) _ g) .few)
+      let k = rows-passed cs es (right (validRequestOf r) _ g) in
+      (k .few, k .million, request-passed r (left (validRequestOf r) _ g) .few)

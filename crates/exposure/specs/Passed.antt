@@ -9,8 +9,8 @@ use lib.Dec.{leb, eqb}
 use lib.ListN.{length}
 use lib.Ieee.{Float}
 use Rattle.exposure.specs.declared.request.Request.{Request}
-use Rattle.exposure.specs.Rows.{eventsOf, positives, validRows}
-use Rattle.exposure.specs.Request.{validShapes, validRates, upTo, validControls, productOf, validWork, validRequest, admits}
+use Rattle.exposure.specs.Rows.{eventsOf, allPositiveOf, validRowsOf}
+use Rattle.exposure.specs.Request.{validShapesOf, validRatesOf, upToOf, validControlsOf, productOf, validWorkOf, validRequestOf, admittedOf}
 
 pub left : (a b : Bool) → (a && b) ≡ true → a ≡ true
 left true b h = cc
@@ -26,8 +26,8 @@ pub record Rows (cs : List ℕ) (es : List Float) : Type 0 where
   pub paired : length es ≡ length cs
   pub million : eventsOf cs ≤ 1000000
 
-pub rows-passed : (cs : List ℕ) (es : List Float) → validRows cs es ≡ true → Rows cs es
-unfolding validRows
+pub rows-passed : (cs : List ℕ) (es : List Float) → validRowsOf cs es ≡ true → Rows cs es
+unfolding validRowsOf
 rows-passed cs es h =
     let a = right (leb 1 (length cs)) _ h in
     let b = right (leb (length cs) 4096) _ a in
@@ -39,7 +39,7 @@ rows-passed cs es h =
       million = leb-true _ _ (left (leb (eventsOf cs) 1000000) _ c);
     }
 
-module _ (cs : List ℕ) (es : List Float) (h : validRows cs es ≡ true) where
+module _ (cs : List ℕ) (es : List Float) (h : validRowsOf cs es ≡ true) where
   pub rows-few : length cs ≤ 4096
   rows-few = rows-passed cs es h .few
 
@@ -53,33 +53,33 @@ pub record Controls (r : Request) : Type 0 where
   pub some : 1 ≤ r .evaluations .0
   pub few : r .evaluations .0 ≤ 10000
 
-pub controls-passed : (r : Request) → validControls r ≡ true → Controls r
-unfolding validControls upTo
+pub controls-passed : (r : Request) → validControlsOf r ≡ true → Controls r
+unfolding validControlsOf upToOf
 controls-passed r h =
     let a = left (leb 1 (r .evaluations .0) && leb (r .evaluations .0) 10000) _ h in
     record { some = leb-true _ _ (left (leb 1 (r .evaluations .0)) _ a); few = leb-true _ _ (right (leb 1 (r .evaluations .0)) _ a) }
 
-pub request-passed : (r : Request) → validRequest r ≡ true → Controls r
-unfolding validRequest
-request-passed r h = controls-passed r (right (validRates (r .rate)) _ (right (validShapes (r .shape)) _ h))
+pub request-passed : (r : Request) → validRequestOf r ≡ true → Controls r
+unfolding validRequestOf
+request-passed r h = controls-passed r (right (validRatesOf (r .rate)) _ (right (validShapesOf (r .shape)) _ h))
 
 pub record Admitted (r : Request) (cs : List ℕ) (es : List Float) : Type 0 where
   pub rows : Rows cs es
   pub controls : Controls r
   pub work : productOf (eventsOf cs) (length cs) (r .evaluations .0) ≤ 20000000
 
-pub admitted-passed : (r : Request) (cs : List ℕ) (es : List Float) → admits r cs es ≡ true → Admitted r cs es
-unfolding admits validWork
+pub admitted-passed : (r : Request) (cs : List ℕ) (es : List Float) → admittedOf r cs es ≡ true → Admitted r cs es
+unfolding admittedOf validWorkOf
 admitted-passed r cs es h =
-    let a = left (validRequest r && validRows cs es) _ h in
+    let a = left (validRequestOf r && validRowsOf cs es) _ h in
     record {
-      rows = rows-passed cs es (right (validRequest r) _ a);
-      controls = request-passed r (left (validRequest r) _ a);
-      work = leb-true _ _ (right (leb 2 (length cs)) _ (right (validRequest r && validRows cs es) _ h));
+      rows = rows-passed cs es (right (validRequestOf r) _ a);
+      controls = request-passed r (left (validRequestOf r) _ a);
+      work = leb-true _ _ (right (leb 2 (length cs)) _ (right (validRequestOf r && validRowsOf cs es) _ h));
     }
 
 -- the same of a count that was found
-module _ (r : Request) (cs : List ℕ) (es : List Float) (h : admits r cs es ≡ true) where
+module _ (r : Request) (cs : List ℕ) (es : List Float) (h : admittedOf r cs es ≡ true) where
   pub admitted-few : length cs ≤ 4096
   admitted-few = admitted-passed r cs es h .rows .few
 

@@ -6,7 +6,7 @@ use lib.Dec.{leb, eqb}
 use lib.ListN.{length, getD}
 use lib.Ieee.{Float, nan, lt}
 use Rattle.num.specs.F64.{zero·}
-use Rattle.num.specs.Helpers.{isFinite}
+use Rattle.num.specs.Helpers.{isFiniteOf}
 
 abbrev pub countAt : List ℕ → ℕ → ℕ
 countAt cs i = getD cs i 0
@@ -15,8 +15,8 @@ abbrev pub exposureAt : List Float → ℕ → Float
 exposureAt es i = getD es i nan
 
 -- as an exposure or a rate has to be
-unfoldable pub positive : Float → Bool
-positive x = isFinite x && lt zero· x
+unfoldable pub isPositiveOf : Float → Bool
+isPositiveOf x = isFiniteOf x && lt zero· x
 
 -- n rows from the i-th on: their events, and whether each exposure is finite and positive
 unfoldable pub eventsFrom : List ℕ → ℕ → ℕ → ℕ
@@ -25,14 +25,14 @@ eventsFrom cs (suc n) i = countAt cs i + eventsFrom cs n (i + 1)
 
 unfoldable pub positiveFrom : List Float → ℕ → ℕ → Bool
 positiveFrom es zero i = true
-positiveFrom es (suc n) i = positive (exposureAt es i) && positiveFrom es n (i + 1)
+positiveFrom es (suc n) i = isPositiveOf (exposureAt es i) && positiveFrom es n (i + 1)
 
 unfoldable pub eventsOf : List ℕ → ℕ
 eventsOf cs = eventsFrom cs (length cs) 0
 
-unfoldable pub positives : List Float → Bool
-positives es = positiveFrom es (length es) 0
+unfoldable pub allPositiveOf : List Float → Bool
+allPositiveOf es = positiveFrom es (length es) 0
 
 -- 1 to 4,096 rows, at most a million events in all
-unfoldable pub validRows : List ℕ → List Float → Bool
-validRows cs es = leb 1 (length cs) && (leb (length cs) 4096 && (eqb (length es) (length cs) && (leb (eventsOf cs) 1000000 && positives es)))
+unfoldable pub validRowsOf : List ℕ → List Float → Bool
+validRowsOf cs es = leb 1 (length cs) && (leb (length cs) 4096 && (eqb (length es) (length cs) && (leb (eventsOf cs) 1000000 && allPositiveOf es)))

@@ -8,7 +8,7 @@ ghost use mathlib.Core.Path.{_≡_};
 ghost use Prim.Native.Nat.{_≤_};
 ghost use lib.ListN.{length};
 ghost use Rattle.exposure.specs.Rows.{eventsOf};
-ghost use Rattle.exposure.specs.Request.{validShape, boxed, apart, validShapes, validRates, upTo, validControls, productOf, validWork, validRequest, admits};
+ghost use Rattle.exposure.specs.Request.{validShapeOf, isBoxedOf, isApartOf, validShapesOf, validRatesOf, upToOf, validControlsOf, productOf, validWorkOf, validRequestOf, admittedOf};
 
 // A parameter's bounds and start.
 pub struct Range {
@@ -26,7 +26,7 @@ pub struct Request {
 }
 
 pub fn valid_shape(x: f64) -> bool
-    ensures { λ r. ⌜ r ≡ validShape x ⌝ }
+    ensures { λ r. ⌜ r ≡ validShapeOf x ⌝ }
 {
     num::both(
         num::is_finite(x),
@@ -35,7 +35,7 @@ pub fn valid_shape(x: f64) -> bool
 }
 
 fn is_boxed(r: Range) -> bool
-    ensures { λ b. ⌜ b ≡ boxed r ⌝ }
+    ensures { λ b. ⌜ b ≡ isBoxedOf r ⌝ }
 {
     num::both(
         r.low < r.high,
@@ -44,7 +44,7 @@ fn is_boxed(r: Range) -> bool
 }
 
 fn is_apart(r: Range) -> bool
-    ensures { λ b. ⌜ b ≡ apart r ⌝ }
+    ensures { λ b. ⌜ b ≡ isApartOf r ⌝ }
 {
     let low = elementary::log::log(r.low);
     let high = elementary::log::log(r.high);
@@ -52,7 +52,7 @@ fn is_apart(r: Range) -> bool
 }
 
 fn valid_shapes(r: Range) -> bool
-    ensures { λ b. ⌜ b ≡ validShapes r ⌝ }
+    ensures { λ b. ⌜ b ≡ validShapesOf r ⌝ }
 {
     let inside = num::both(is_boxed(r), is_apart(r));
     let rest = num::both(valid_shape(r.start), inside);
@@ -60,7 +60,7 @@ fn valid_shapes(r: Range) -> bool
 }
 
 fn valid_rates(r: Range) -> bool
-    ensures { λ b. ⌜ b ≡ validRates r ⌝ }
+    ensures { λ b. ⌜ b ≡ validRatesOf r ⌝ }
 {
     let inside = num::both(is_boxed(r), is_apart(r));
     let rest = num::both(is_positive(r.start), inside);
@@ -68,13 +68,13 @@ fn valid_rates(r: Range) -> bool
 }
 
 fn up_to(n: u64) -> bool
-    ensures { λ r. ⌜ r ≡ upTo n ⌝ }
+    ensures { λ r. ⌜ r ≡ upToOf n ⌝ }
 {
     num::both(1 <= n, n <= 10000)
 }
 
 fn valid_controls(r: Request) -> bool
-    ensures { λ b. ⌜ b ≡ validControls r ⌝ }
+    ensures { λ b. ⌜ b ≡ validControlsOf r ⌝ }
 {
     let a = up_to(r.evaluations.0);
     let b = up_to(r.iterations.0);
@@ -91,7 +91,7 @@ pub fn product(events: u64, rows: u64, most: u64) -> u64
 
 fn valid_work(most: u64, counts: &[u32]) -> bool
     requires { ⌜ (length (now counts) ≤ 4096) × (eventsOf (now counts) ≤ 1000000) × (most ≤ 10000) ⌝ }
-    ensures { λ b. ⌜ b ≡ validWork most (now (counts .entry)) ⌝ }
+    ensures { λ b. ⌜ b ≡ validWorkOf most (now (counts .entry)) ⌝ }
 {
     let n = counts.len();
     if n < 2 {
@@ -101,7 +101,7 @@ fn valid_work(most: u64, counts: &[u32]) -> bool
 }
 
 fn valid_request(r: Request) -> bool
-    ensures { λ b. ⌜ b ≡ validRequest r ⌝ }
+    ensures { λ b. ⌜ b ≡ validRequestOf r ⌝ }
 {
     let a = valid_shapes(r.shape);
     let b = valid_rates(r.rate);
@@ -109,7 +109,7 @@ fn valid_request(r: Request) -> bool
 }
 
 pub fn admitted(r: Request, counts: &[u32], exposures: &[f64]) -> bool
-    ensures { λ b. ⌜ b ≡ admits r (now (counts .entry)) (now (exposures .entry)) ⌝ }
+    ensures { λ b. ⌜ b ≡ admittedOf r (now (counts .entry)) (now (exposures .entry)) ⌝ }
 {
     let request = valid_request(r);
     let rows = valid_rows(counts, exposures);

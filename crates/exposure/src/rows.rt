@@ -2,16 +2,16 @@
 ghost use mathlib.Core.Path.{_≡_};
 ghost use Prim.Native.Nat.{_≤_};
 ghost use lib.ListN.{length};
-ghost use Rattle.exposure.specs.Rows.{positive, positives, eventsOf, validRows};
+ghost use Rattle.exposure.specs.Rows.{isPositiveOf, allPositiveOf, eventsOf, validRowsOf};
 
 pub fn is_positive(x: f64) -> bool
-    ensures { λ r. ⌜ r ≡ positive x ⌝ }
+    ensures { λ r. ⌜ r ≡ isPositiveOf x ⌝ }
 {
     num::both(num::is_finite(x), 0.0 < x)
 }
 
 fn all_positive(exposures: &[f64]) -> bool
-    ensures { λ r. ⌜ r ≡ positives (now (exposures .entry)) ⌝ }
+    ensures { λ r. ⌜ r ≡ allPositiveOf (now (exposures .entry)) ⌝ }
 {
     for i in 0..exposures.len() {
         if !is_positive(exposures[i]) {
@@ -34,7 +34,7 @@ pub fn events(counts: &[u32]) -> u64
 }
 
 pub fn valid_rows(counts: &[u32], exposures: &[f64]) -> bool
-    ensures { λ r. ⌜ r ≡ validRows (now (counts .entry)) (now (exposures .entry)) ⌝ }
+    ensures { λ r. ⌜ r ≡ validRowsOf (now (counts .entry)) (now (exposures .entry)) ⌝ }
 {
     let n = counts.len();
     if n < 1 {

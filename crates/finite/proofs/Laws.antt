@@ -5,16 +5,16 @@ use mathlib.Core.List.{List}
 use Prim.Native.Nat.{ℕ, _+_, _-_, _<_, _≤_}
 use lib.ListN.{getD}
 use lib.Ieee.{Float, nan}
-use Rattle.num.specs.Helpers.{isFinite}
+use Rattle.num.specs.Helpers.{isFiniteOf}
 use Rattle.num.specs.Left.{left-one, left-none}
 use Rattle.finite.specs.Finite.{finiteFrom}
 
 module _ (v : List Float) (whole : Bool) (n i : ℕ) (e : finiteFrom v (n - i) i ≡ whole) where
-  pub finite-stops : (t : Bool) → i < n → t ≡ isFinite (getD v i nan) → t ≡ false → false ≡ whole
+  pub finite-stops : (t : Bool) → i < n → t ≡ isFiniteOf (getD v i nan) → t ≡ false → false ≡ whole
   unfolding finiteFrom
   finite-stops t h u f = rw (left-one n i h, ← u, f) at e
 
-  pub finite-turn : (t : Bool) → i < n → t ≡ isFinite (getD v i nan) → t ≡ true → finiteFrom v (n - (i + 1)) (i + 1) ≡ whole
+  pub finite-turn : (t : Bool) → i < n → t ≡ isFiniteOf (getD v i nan) → t ≡ true → finiteFrom v (n - (i + 1)) (i + 1) ≡ whole
   unfolding finiteFrom
   finite-turn t h u f = rw (left-one n i h, ← u, f) at e
 

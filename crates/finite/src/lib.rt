@@ -1,9 +1,9 @@
 // Whether every number of a lent run is finite.
 ghost use mathlib.Core.Path.{_≡_};
-ghost use Rattle.finite.specs.Finite.{allFinite};
+ghost use Rattle.finite.specs.Finite.{allFiniteOf};
 
 pub fn all_finite(v: &[f64]) -> bool
-    ensures { λ r. ⌜ (r ≡ allFinite (now (v .entry))) × (now (v .exit) ≡ now (v .entry)) ⌝ }
+    ensures { λ r. ⌜ (r ≡ allFiniteOf (now (v .entry))) × (now (v .exit) ≡ now (v .entry)) ⌝ }
 {
     for i in 0..v.len() {
         if !num::is_finite(v[i]) {

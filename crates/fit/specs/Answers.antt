@@ -15,7 +15,7 @@ use Rattle.legendre.specs.Legendre.{legendreOf}
 use Rattle.posterior.specs.declared.integrand.Point.{Point}
 use Rattle.posterior.specs.Integrand.{Eval, at}
 use Rattle.request.specs.declared.Request.{Request}
-use Rattle.request.specs.Request.{admits, validLimit}
+use Rattle.request.specs.Request.{admittedOf, validLimit}
 use Rattle.request.specs.Checks.{requestChecks}
 use Rattle.request.specs.Checks as checks
 use Rattle.fit.specs.declared.report.Fit.{Fit}
@@ -51,7 +51,7 @@ module _ (r : Request) (ls : List ℕ) where
       (λ t. rw t)
 
   -- A request that fails any check is InvalidInput, with count 0.
-  pub unfit-refused : (validLimit (r .quadrature .0) && admits r ls) ≡ false → fitOf r ls ≡ refusedOf InvalidInput 0
+  pub unfit-refused : (validLimit (r .quadrature .0) && admittedOf r ls) ≡ false → fitOf r ls ≡ refusedOf InvalidInput 0
   unfolding fitOf limitedFit fit
   unfit-refused h =
       split (validLimit (r .quadrature .0))

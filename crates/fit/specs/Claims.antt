@@ -5,7 +5,7 @@ use mathlib.Core.List.{List}
 use Prim.Native.Nat.{ℕ}
 use lib.Dec.{T}
 use lib.Ieee.{Float, binary64, le, fits}
-use Rattle.num.specs.Helpers.{isFinite}
+use Rattle.num.specs.Helpers.{isFiniteOf}
 use Rattle.order.specs.Numbers.{finite-number}
 use Rattle.work.specs.declared.Ending.the-variants.{Answered}
 use Rattle.work.specs.Ended.{Ended, done, stopped, short, valueOr}
@@ -17,7 +17,7 @@ use Rattle.legendre.specs.Legendre.{legendreOf}
 use Rattle.posterior.specs.Integrand.{at}
 use Rattle.value.specs.declared.Totals.{Totals}
 use Rattle.value.specs.Totals.{noTotals}
-use Rattle.objective.specs.Litters.{countOf}
+use Rattle.litters.specs.Litters.{countOf}
 use Rattle.objective.specs.Objective.{objective, objectiveOf}
 use Rattle.objective.specs.Finite.{Known, objective-known}
 use Rattle.objective.specs.Bound.{objective-in-full}
@@ -36,7 +36,7 @@ use Rattle.fit.specs.Driven.{descentOf, trialsOf, pointsOf, Ends, ends}
 
 -- the starting likelihood: the objective's, called alone at the start
 abbrev pub startingOf : Request → List ℕ → Float
-startingOf r ls = objectiveOf (startOf r) ls .nll
+startingOf r ls = objectiveOf (startOf r) ls .v .nll
 
 module _ (r : Request) (ls : List ℕ) where
   -- a point at which the fit had its objective evaluated, and its value there
@@ -54,7 +54,7 @@ module _ (r : Request) (ls : List ℕ) where
   visited-fits x v m = visited-known x v m .value
 
   starting-is : (v : Totals) → Visited (startOf r) v → startingOf r ls ≡ v .nll
-  starting-is v m = ap (λ o. o .nll) (objective-in-full (startOf r) ls) ∙ ap (λ (e : Ended Totals). valueOr noTotals e .nll) (visited-value (startOf r) v m)
+  starting-is v m = ap (λ o. o .v .nll) (objective-in-full (startOf r) ls) ∙ ap (λ (e : Ended Totals). valueOr noTotals e .nll) (visited-value (startOf r) v m)
 
   -- a report of a point and its value that are among those
   pub record Reports (f : Fit) : Type 0 where
@@ -104,8 +104,8 @@ module _ (r : Request) (ls : List ℕ) where
     start-known = visited-known (startOf r) (led .start) (led .evaluated)
 
     -- the starting likelihood of an answered fit is finite
-    pub start-finite : isFinite (startingOf r ls) ≡ true
-    start-finite = ap (λ y. isFinite y) start-is ∙ start-known .finite .likelihood
+    pub start-finite : isFiniteOf (startingOf r ls) ≡ true
+    start-finite = ap (λ y. isFiniteOf y) start-is ∙ start-known .finite .likelihood
 
     -- The reported likelihood is at most the start's, raised by the allowance of each step by the rounding rule.
     pub fit-at-most : le (fitOf r ls .nll) (raisedBy (trialsOf r ls) (startingOf r ls)) ≡ true

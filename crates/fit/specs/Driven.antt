@@ -12,12 +12,12 @@ use Rattle.work.specs.Through.{Open, Driven, driven, driven-is}
 use Rattle.legendre.specs.Legendre.{legendreOf}
 use Rattle.posterior.specs.Integrand.{at}
 use Rattle.value.specs.declared.Totals.{Totals}
-use Rattle.objective.specs.Litters.{countOf}
+use Rattle.litters.specs.Litters.{countOf}
 use Rattle.descent.specs.declared.Trial.{Trial}
 use Rattle.descent.specs.Descent.{Asked, Descended, descent}
 use Rattle.descent.specs.Points.{Place, pointsIn}
 use Rattle.request.specs.declared.Request.{Request}
-use Rattle.request.specs.Request.{admits, validLimit, startOf}
+use Rattle.request.specs.Request.{admittedOf, validLimit, startOf}
 use Rattle.stepper.specs.Machine.{problemOf}
 use Rattle.course.specs.Course.{noDescended, trialsIn, shown}
 use Rattle.course.specs.Drives.{courseOf}
@@ -49,11 +49,11 @@ impossible z = absurd (omega arith)
 
 module _ (r : Request) (ls : List ℕ) where
   -- ---- the fit of a request that passes the checks, and of one that does not
-  pub admitted-is : (n : ℕ) → admits r ls ≡ true → limitedFit (r .quadrature .0) r ls ≡ reportedOf r (countOf ls) (wholeOf r ls n)
+  pub admitted-is : (n : ℕ) → admittedOf r ls ≡ true → limitedFit (r .quadrature .0) r ls ≡ reportedOf r (countOf ls) (wholeOf r ls n)
   unfolding limitedFit fit wholeOf courseOf reportedOf
   admitted-is n h = rw (branch, h, past noDescended, gives, driven-is)
 
-  pub not-admitted-is : admits r ls ≡ false → limitedFit (r .quadrature .0) r ls ≡ refusedOf InvalidInput 0
+  pub not-admitted-is : admittedOf r ls ≡ false → limitedFit (r .quadrature .0) r ls ≡ refusedOf InvalidInput 0
   unfolding limitedFit fit
   not-admitted-is h = rw (branch, h, gives-up)
 
@@ -68,7 +68,7 @@ module _ (r : Request) (ls : List ℕ) where
   unfolding wholeOf courseOf descentOf
   whole-is = refl
 
-  fit-is : validLimit (r .quadrature .0) ≡ true → admits r ls ≡ true → fitOf r ls ≡ reportedOf r (countOf ls) (shown 0 (descentOf r ls))
+  fit-is : validLimit (r .quadrature .0) ≡ true → admittedOf r ls ≡ true → fitOf r ls ≡ reportedOf r (countOf ls) (shown 0 (descentOf r ls))
   unfolding fitOf
   fit-is t a = rw t (admitted-is 0 a ∙ ap (λ c. reportedOf r (countOf ls) c) whole-is)
 
@@ -79,7 +79,7 @@ module _ (r : Request) (ls : List ℕ) where
   ends k =
       split (validLimit (r .quadrature .0))
       (λ t.
-      split (admits r ls)
+      split (admittedOf r ls)
       (λ a. by-ending (fitOf r ls) (descentOf r ls .ended) (descentOf r ls .used) (descentOf r ls .asked) (fit-is t a) k)
       (λ a. refused (unfold fitOf in rw t (not-admitted-is a)) k))
       (λ t. refused (unfold fitOf in rw t) k)

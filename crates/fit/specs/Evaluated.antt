@@ -10,11 +10,11 @@ use Rattle.work.specs.Given.{Truly, holds, refuses, tested, passed, own-answer}
 use Rattle.legendre.specs.Legendre.{legendreOf}
 use Rattle.posterior.specs.Integrand.{at}
 use Rattle.value.specs.declared.Totals.{Totals}
-use Rattle.objective.specs.Litters.{countOf}
+use Rattle.litters.specs.Litters.{countOf}
 use Rattle.objective.specs.Objective.{objective}
 use Rattle.descent.specs.Stopping.{reports-evaluated}
 use Rattle.request.specs.declared.Request.{Request}
-use Rattle.request.specs.Request.{admits, startOf}
+use Rattle.request.specs.Request.{admittedOf, startOf}
 use Rattle.stepper.specs.Machine.{problemOf}
 use Rattle.drive.specs.Drive.{valueAt}
 use Rattle.fit.specs.Fit.{Report, planOf, reportOf, fit, fitOf}
@@ -31,7 +31,7 @@ module _ (r : Request) (ls : List ℕ) where
   reports : Truly at (Evaluated r ls) (fit legendreOf r ls)
   unfolding fit
   reports =
-      tested (admits r ls)
+      tested (admittedOf r ls)
       (λ t. passed (reports-evaluated (problemOf (planOf r)) (λ q. valueAt legendreOf ls (q .at)) (λ x v. run at (objective legendreOf x ls) ≡ done v) (λ q. own-answer at (objective legendreOf (q .at) ls)) (startOf r)) (λ d h. holds (record { x = d .x; v = d .v; value = h; report = refl })))
       (λ t. refuses)
 

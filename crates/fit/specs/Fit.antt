@@ -20,14 +20,14 @@ use Rattle.descent.specs.declared.Status.the-variants.{NoStatus}
 use Rattle.work.specs.Through.{through}
 use Rattle.descent.specs.Descent.{descent}
 use Rattle.value.specs.declared.Totals.{Totals}
-use Rattle.objective.specs.Litters.{countOf}
+use Rattle.litters.specs.Litters.{countOf}
 use Rattle.request.specs.declared.Request.{Request}
 use Rattle.stepper.specs.declared.Plan.{Plan}
 use Rattle.course.specs.declared.Course.{Course}
 use Rattle.fit.specs.declared.report.Fit.{Fit}
 use Rattle.fit.specs.declared.report.Seen.{Seen}
-use Rattle.request.specs.Request.{admits, validLimit, startOf, lowOf, highOf}
-use Rattle.trial.specs.Judged.{normAt}
+use Rattle.request.specs.Request.{admittedOf, validLimit, startOf, lowOf, highOf}
+use Rattle.trial.specs.Judged.{normAtOf}
 use Rattle.stepper.specs.Machine.{problemOf}
 use Rattle.drive.specs.Drive.{valueAt, drivenOf, refusedLitter}
 use Rattle.why.specs.declared.Why.{Why}
@@ -58,11 +58,11 @@ abbrev pub sdOf : Request → List Float → ℕ → ℕ → Float
 sdOf r x i j = clampOf (sqrtOf (getD x j nan)) (getD (r .sd .low) i nan) (getD (r .sd .high) i nan)
 
 -- a coordinate on one of its bounds
-abbrev pub onBound : Float → Float → Float → Bool
-onBound x lo hi = eq x lo || eq x hi
+abbrev pub onBoundOf : Float → Float → Float → Bool
+onBoundOf x lo hi = eq x lo || eq x hi
 
 abbrev activeAt : List Float → List Float → List Float → ℕ → Bool
-activeAt x lo hi i = onBound (getD x i nan) (getD lo i nan) (getD hi i nan)
+activeAt x lo hi i = onBoundOf (getD x i nan) (getD lo i nan) (getD hi i nan)
 
 unfoldable pub activeOf : List Float → List Float → List Float → List Bool
 activeOf x lo hi = let at = activeAt x lo hi in at 0 ∷ at 1 ∷ at 2 ∷ at 3 ∷ []
@@ -78,7 +78,7 @@ reportOf r n status x v e k =
       sds = sdsOf r x;
       variances = getD x 2 nan ∷ getD x 3 nan ∷ [];
       nll = v .nll;
-      norm = normAt (lowOf r) (highOf r) x v;
+      norm = normAtOf (lowOf r) (highOf r) x v;
       gradient = v .gradient;
       hessian = v .hessian;
       evaluations = e;
@@ -90,7 +90,7 @@ reportOf r n status x v e k =
 -- The fit as one computation: each evaluation of each objective call is asked for here. It reads every number of the request but the work limit.
 unfoldable pub fit : List Pair → Request → List ℕ → Work Eval Point Report
 fit rule r ls =
-    cond (admits r ls)
+    cond (admittedOf r ls)
     (through (λ q. valueAt rule ls (q .at)) (descent (problemOf (planOf r)) (startOf r)) >>= λ d. ret (reportOf r (countOf ls) (d .status) (d .x) (d .v) (d .evaluations) (d .iterations)))
     (stop invalid)
 
@@ -157,8 +157,8 @@ fitOf r ls = cond (validLimit (r .quadrature .0)) (limitedFit (r .quadrature .0)
 
 -- ---- with a trial watched: the fit is the same, whichever it is, and so is what stopped it
 
-unfoldable pub seenOf : Request → List ℕ → ℕ → Seen
-seenOf r ls n = record { fit = reportedOf r (countOf ls) (wholeOf r ls n); why = whyIn n (wholeOf r ls n); stop = stopIn (wholeOf r ls n) (litterOf r ls) }
+unfoldable pub fitAdmittedOf : Request → List ℕ → ℕ → Seen
+fitAdmittedOf r ls n = record { fit = reportedOf r (countOf ls) (wholeOf r ls n); why = whyIn n (wholeOf r ls n); stop = stopIn (wholeOf r ls n) (litterOf r ls) }
 
 -- of a request that fails a check
 abbrev pub unfitStop : Stop
@@ -168,10 +168,10 @@ abbrev pub unfitOf : Seen
 unfitOf = record { fit = refusedOf InvalidInput 0; why = Unmade; stop = unfitStop }
 
 unfoldable pub whyFor : Request → List ℕ → ℕ → Why
-whyFor r ls n = cond (validLimit (r .quadrature .0)) (cond (admits r ls) (whyIn n (wholeOf r ls n)) Unmade) Unmade
+whyFor r ls n = cond (validLimit (r .quadrature .0)) (cond (admittedOf r ls) (whyIn n (wholeOf r ls n)) Unmade) Unmade
 
 unfoldable pub stopFor : Request → List ℕ → ℕ → Stop
-stopFor r ls n = cond (validLimit (r .quadrature .0)) (cond (admits r ls) (stopIn (wholeOf r ls n) (litterOf r ls)) unfitStop) unfitStop
+stopFor r ls n = cond (validLimit (r .quadrature .0)) (cond (admittedOf r ls) (stopIn (wholeOf r ls n) (litterOf r ls)) unfitStop) unfitStop
 
 unfoldable pub watchedOf : Request → List ℕ → ℕ → Seen
 watchedOf r ls n = record { fit = fitOf r ls; why = whyFor r ls n; stop = stopFor r ls n }

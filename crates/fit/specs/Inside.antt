@@ -20,21 +20,23 @@ use Rattle.work.specs.Asks.{refused-by}
 use Rattle.legendre.specs.Legendre.{legendreOf}
 use Rattle.posterior.specs.Integrand.{at}
 use Rattle.value.specs.declared.Totals.{Totals}
-use Rattle.objective.specs.Litters.{validLitters, validPoint}
+use Rattle.litters.specs.Valid.{validLittersOf}
+use Rattle.objective.specs.Point.{validPointOf}
 use Rattle.objective.specs.Objective as objective
 use Rattle.objective.specs.Reasons.{admitted-reasons}
 use Rattle.objective.specs.Finite.{Known, objective-known}
 use Rattle.descent.specs.Descent.{descent}
 use Rattle.descent.specs.Asking.{shareOf, share-finite, Only, Reports, descent-asks}
 use Rattle.request.specs.declared.Request.{Request}
-use Rattle.request.specs.Request.{admits, validLimit, startOf, lowOf, highOf}
-use Rattle.request.specs.Box.{admitted-litters, the-box, start-inside, start-fits, inside-valid}
+use Rattle.request.specs.Request.{admittedOf, validLimit, startOf, lowOf, highOf}
+use Rattle.request.specs.Box.{admitted-litters, the-box, start-inside, start-fits}
 use Rattle.step.specs.Step.{projectOf, candidateOf}
 use Rattle.step.specs.Inside.{project-finite, direction-finite, candidate-inside, candidate-fits}
-use Rattle.stepper.specs.Machine.{directionAt, problemOf}
+use Rattle.stepper.specs.Machine.{directionAtOf, problemOf}
 use Rattle.drive.specs.Drive.{valueAt}
 use Rattle.fit.specs.Fit.{planOf, fit, refusedOf, limitedFit, fitOf}
 use Rattle.fit.specs.Answers.{unfit-refused}
+use Rattle.fit.specs.Valid.{both, inside-valid}
 
 -- a point in the request's box, its variances f64
 pub record Boxed (r : Request) (x : List Float) : Type 0 where
@@ -45,20 +47,17 @@ pub record Boxed (r : Request) (x : List Float) : Type 0 where
 abbrev pub KnownAt : List Float → Totals → Type 0
 KnownAt x v = Known v
 
-both : (a b : Bool) → a ≡ true → b ≡ true → (a && b) ≡ true
-both a b h k = rw (h, k)
-
 module _ (r : Request) (ls : List ℕ) where
-  module _ (h : admits r ls ≡ true) where
+  module _ (h : admittedOf r ls ≡ true) where
     pub start-boxed : Boxed r (startOf r)
     start-boxed = record { inside = start-inside r ls h; third = start-fits _; fourth = start-fits _ }
 
     -- a candidate from a point in the box, where the value is finite, lies in the box
-    pub kept : (x : List Float) (v : Totals) → Boxed r x → Known v → (k : ℕ) → Boxed r (candidateOf x (directionAt (lowOf r) (highOf r) x v) (shareOf k) (lowOf r) (highOf r))
+    pub kept : (x : List Float) (v : Totals) → Boxed r x → Known v → (k : ℕ) → Boxed r (candidateOf x (directionAtOf (lowOf r) (highOf r) x v) (shareOf k) (lowOf r) (highOf r))
     kept x v b q k =
         let lo = lowOf r in
         let hi = highOf r in
-        let d = directionAt lo hi x v in
+        let d = directionAtOf lo hi x v in
         let slopes = project-finite x (v .gradient) lo hi (q .finite .slopes) in
         record {
           inside = candidate-inside lo hi x d (shareOf k) (the-box r ls h) (inside-finite lo hi x (the-box r ls h) (b .inside)) (direction-finite x (projectOf x (v .gradient) lo hi) (v .hessian) lo hi slopes) (share-finite k);
@@ -72,7 +71,7 @@ module _ (r : Request) (ls : List ℕ) where
 
     -- no such point is refused by the objective's own checks
     valued : (x : List Float) → Boxed r x → Stops (Reasoned 6) (valueAt legendreOf ls x)
-    valued x b = admitted-reasons legendreOf x ls (both (validPoint x) (validLitters ls) (inside-valid r ls h x (b .inside)) (admitted-litters r ls h))
+    valued x b = admitted-reasons legendreOf x ls (both (validPointOf x) (validLittersOf ls) (inside-valid r ls h x (b .inside)) (admitted-litters r ls h))
 
     -- an admitted request's fit stops by itself for a reason from 1 to 6 alone
     pub fit-reasons : Stops (Reasoned 6) (fit legendreOf r ls)
@@ -81,7 +80,7 @@ module _ (r : Request) (ls : List ℕ) where
 
   -- A Domain's reason is 1 to 6.
   any-reasons : Stops (OrInvalid (Reasoned 6)) (fit legendreOf r ls)
-  any-reasons = split (admits r ls) (λ t. others (or-invalid (Reasoned 6)) (fit-reasons t)) (λ t. unfold fit in rw t (refuses {r = invalid} tt))
+  any-reasons = split (admittedOf r ls) (λ t. others (or-invalid (Reasoned 6)) (fit-reasons t)) (λ t. unfold fit in rw t (refuses {r = invalid} tt))
 
   pub fit-domain : (reason : ℕ) → fitOf r ls .end ≡ Domain reason → (1 ≤ reason) × (reason ≤ 6)
   unfolding fitOf limitedFit
@@ -91,7 +90,7 @@ module _ (r : Request) (ls : List ℕ) where
       (λ t. let e = rw t at h in let z : _≡_ {A = ℕ} 0 1 = cc in absurd (omega arith))
 
   -- A fit whose checks pass is never InvalidInput.
-  never-invalid : validLimit (r .quadrature .0) ≡ true → admits r ls ≡ true → fitOf r ls .end ≡ InvalidInput → ⊥
+  never-invalid : validLimit (r .quadrature .0) ≡ true → admittedOf r ls ≡ true → fitOf r ls .end ≡ InvalidInput → ⊥
   unfolding fitOf limitedFit
   never-invalid t h e = metered-invalid at (r .quadrature .0) 0 (fit-reasons h) (rw t at e)
 
@@ -101,8 +100,8 @@ module _ (r : Request) (ls : List ℕ) where
   checks-fail false b h = refl
 
   -- A fit is InvalidInput exactly if a check of its request fails, and then its count is 0.
-  pub invalid-exactly : (fitOf r ls .end ≡ InvalidInput) ↔ ((validLimit (r .quadrature .0) && admits r ls) ≡ false)
-  invalid-exactly = (λ e. checks-fail (validLimit (r .quadrature .0)) (admits r ls) (λ t h. never-invalid t h e), λ f. ap (λ o. o .end) (unfit-refused r ls f))
+  pub invalid-exactly : (fitOf r ls .end ≡ InvalidInput) ↔ ((validLimit (r .quadrature .0) && admittedOf r ls) ≡ false)
+  invalid-exactly = (λ e. checks-fail (validLimit (r .quadrature .0)) (admittedOf r ls) (λ t h. never-invalid t h e), λ f. ap (λ o. o .end) (unfit-refused r ls f))
 
   pub invalid-counts-nothing : fitOf r ls .end ≡ InvalidInput → fitOf r ls ≡ refusedOf InvalidInput 0
   invalid-counts-nothing e = unfit-refused r ls (invalid-exactly .0 e)

@@ -13,15 +13,14 @@ use Rattle.posterior.specs.Integrand.{at}
 use Rattle.descent.specs.declared.Status.{Status}
 use Rattle.value.specs.declared.Totals.{Totals}
 use Rattle.objective.specs.declared.sum.Objective.{Objective}
-use Rattle.objective.specs.Litters.{countOf}
+use Rattle.litters.specs.Litters.{countOf}
 use Rattle.objective.specs.Objective.{objective, answeredOf, objectiveOf}
 use Rattle.objective.specs.Bound.{objective-in-full}
 use Rattle.objective.specs.Coordinates.{pointOf, objective-reads}
 use Rattle.request.specs.declared.Request.{Request}
 use Rattle.request.specs.Request.{lowOf, highOf}
 use Rattle.step.specs.Step.{projectOf}
-use Rattle.trial.specs.Judged.{normAt}
-use Rattle.drive.specs.Drive.{totalsIn}
+use Rattle.trial.specs.Judged.{normAtOf}
 use Rattle.fit.specs.declared.report.Fit.{Fit}
 use Rattle.fit.specs.Fit.{toFit, reportOf, fitOf}
 use Rattle.fit.specs.Evaluated.{fit-evaluated}
@@ -33,10 +32,10 @@ reportedPoint f = getD (f .means) 0 nan ∷ getD (f .means) 1 nan ∷ getD (f .v
 -- the objective o gives what the fit f reports; its count is its own, of the evaluations that it lists there
 pub record Gives (r : Request) (ls : List ℕ) (f : Fit) (o : Objective) : Type 0 where
   pub answered : o .end ≡ Answered
-  pub nll : o .nll ≡ f .nll
-  pub gradient : o .gradient ≡ f .gradient
-  pub hessian : o .hessian ≡ f .hessian
-  pub norm : normAt (lowOf r) (highOf r) (reportedPoint f) (totalsIn o) ≡ f .norm
+  pub nll : o .v .nll ≡ f .nll
+  pub gradient : o .v .gradient ≡ f .gradient
+  pub hessian : o .v .hessian ≡ f .hessian
+  pub norm : normAtOf (lowOf r) (highOf r) (reportedPoint f) (o .v) ≡ f .norm
   pub count : o .used .0 ≡ length (listed at (objective legendreOf (reportedPoint f) ls))
 
 module _ (r : Request) (ls : List ℕ) where

@@ -8,15 +8,15 @@ use borrow.Author.Tests.{leb-true}
 use lib.Dec.{leb}
 use lib.Ieee.{lt}
 use Rattle.num.specs.F64.{zero·}
-use Rattle.num.specs.Helpers.{isFinite}
+use Rattle.num.specs.Helpers.{isFiniteOf}
 use Rattle.work.specs.declared.Ending.the-variants.{Answered}
 use Rattle.work.specs.Metered.{split}
 use Rattle.work.specs.Given.{Always, holds, refuses, tested, passed}
 use Rattle.legendre.specs.Legendre.{legendreOf}
 use Rattle.descent.specs.Stopping.{ByRule, by-rule, stops}
-use Rattle.objective.specs.Litters.{validLitters}
+use Rattle.litters.specs.Valid.{validLittersOf}
 use Rattle.request.specs.declared.Request.{Request}
-use Rattle.request.specs.Request.{admits, validBoxes, validControls, upTo, twoEach, startOf}
+use Rattle.request.specs.Request.{admittedOf, validBoxesOf, validControlsOf, upToOf, twoEachOf, startOf}
 use Rattle.stepper.specs.Machine.{problemOf}
 use Rattle.drive.specs.Drive.{valueAt}
 use Rattle.fit.specs.Fit.{Report, planOf, fit, fitOf}
@@ -28,9 +28,9 @@ least n boxes most rest litters h =
     (λ b. split boxes (λ a. let e = rw (a, b) at h in let z : _≡_ {A = ℕ} 0 1 = cc in absurd (omega arith)) (λ a. let e = rw a at h in let z : _≡_ {A = ℕ} 0 1 = cc in absurd (omega arith)))
 
 -- an admitted request may evaluate its start
-some : (r : Request) (ls : List ℕ) → admits r ls ≡ true → 1 ≤ r .evaluations .0
-unfolding admits validControls
-some r ls t = least (r .evaluations .0) (validBoxes r) (leb (r .evaluations .0) 1000) (upTo 1000 (r .iterations .0) && (isFinite (r .tolerance) && lt zero· (r .tolerance))) (validLitters ls && twoEach ls) t
+some : (r : Request) (ls : List ℕ) → admittedOf r ls ≡ true → 1 ≤ r .evaluations .0
+unfolding admittedOf validControlsOf
+some r ls t = least (r .evaluations .0) (validBoxesOf r) (leb (r .evaluations .0) 1000) (upToOf 1000 (r .iterations .0) && (isFiniteOf (r .tolerance) && lt zero· (r .tolerance))) (validLittersOf ls && twoEachOf ls) t
 
 abbrev pub Stopped : Request → Report → Type 0
 Stopped r p = ByRule (p .status) (p .norm) (r .tolerance) (p .evaluations) (r .evaluations .0) (p .iterations) (r .iterations .0)
@@ -39,7 +39,7 @@ module _ (r : Request) (ls : List ℕ) where
   pub fit-stops : Always (Stopped r) (fit legendreOf r ls)
   unfolding fit
   fit-stops =
-      tested (admits r ls)
+      tested (admittedOf r ls)
       (λ t. passed (stops (problemOf (planOf r)) (λ q. valueAt legendreOf ls (q .at)) (some r ls t) (startOf r)) (λ d s. holds (by-rule _ _ _ _ _ _ _ (s .status) (s .within-evaluations) (s .within-iterations))))
       (λ t. refuses)
 

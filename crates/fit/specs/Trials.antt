@@ -13,7 +13,7 @@ use lib.Ieee.{Float, nan, binary64, lt, le, eq, fits}
 use lib.Ieee.Bits.{ofBits-fits}
 use lib.Ieee.Fits.{add-fits}
 use Rattle.num.specs.F64.{_⊕_, _⊖_, _⊗_, zero·}
-use Rattle.num.specs.Helpers.{isFinite}
+use Rattle.num.specs.Helpers.{isFiniteOf}
 use Rattle.finite.specs.Finite.{and-first, and-second}
 use Rattle.order.specs.Numbers.{zero-finite, between-finite, finite-number}
 use Rattle.order.specs.Order.{le-then-le, eq-le, eq-ge, le-self, lt-le, not-le}
@@ -34,11 +34,11 @@ use Rattle.descent.specs.Descent.{Asked, Descended, descent}
 use Rattle.descent.specs.Claims.{Among, newest, older}
 use Rattle.descent.specs.Asking.{shareOf}
 use Rattle.request.specs.declared.Request.{Request}
-use Rattle.request.specs.Request.{admits, validBoxes, validControls, validLimit, upTo, twoEach, startOf, lowOf, highOf}
+use Rattle.request.specs.Request.{admittedOf, validBoxesOf, validControlsOf, validLimit, upToOf, twoEachOf, startOf, lowOf, highOf}
 use Rattle.request.specs.Box.{the-box}
-use Rattle.objective.specs.Litters.{validLitters}
+use Rattle.litters.specs.Valid.{validLittersOf}
 use Rattle.step.specs.Step.{candidateOf, slopeOf, stillOf}
-use Rattle.stepper.specs.Machine.{directionAt, problemOf}
+use Rattle.stepper.specs.Machine.{directionAtOf, problemOf}
 use Rattle.course.specs.Course.{trialIn, trialsIn}
 use Rattle.course.specs.Drives.{courseOf}
 use Rattle.drive.specs.Drive.{valueAt}
@@ -55,7 +55,7 @@ record Null (x : Float) : Type 0 where
   below : le zero· x ≡ true
   above : le x zero· ≡ true
 
-null-finite : (x : Float) → Null x → isFinite x ≡ true
+null-finite : (x : Float) → Null x → isFiniteOf x ≡ true
 null-finite x n = between-finite zero· x zero· zero-finite zero-finite (n .below) (n .above)
 
 null-zero : Null zero·
@@ -68,10 +68,10 @@ null-add s p f n m =
       above = le-then-le (s ⊕ p) s zero· (add-not-above s p (null-finite s n) f (m .above)) (n .above);
     }
 
-null-difference : (a b : Float) → isFinite b ≡ true → eq a b ≡ true → Null (a ⊖ b)
+null-difference : (a b : Float) → isFiniteOf b ≡ true → eq a b ≡ true → Null (a ⊖ b)
 null-difference a b i e = record { below = difference-not-below a b i (eq-ge a b e); above = difference-not-above a b i (eq-le a b e) }
 
-null-product : (g d : Float) → isFinite g ≡ true → Null d → Null (g ⊗ d)
+null-product : (g d : Float) → isFiniteOf g ≡ true → Null d → Null (g ⊗ d)
 null-product g d i n =
     let m = mul-number g d i (null-finite d n) in
     let w = mul-number d g (null-finite d n) i in
@@ -119,13 +119,13 @@ not-among (one-more h l) (newest e) = let z : movedOf NotMoved ≡ true = ap (λ
 not-among (one-more h l) (older m) = not-among l m
 
 module _ (r : Request) (ls : List ℕ) where
-  module _ (h : admits r ls ≡ true) where
-    moves : (x : List Float) (v : Totals) → Boxed r x → Known v → (k : ℕ) → let next = candidateOf x (directionAt (lowOf r) (highOf r) x v) (shareOf k) (lowOf r) (highOf r) in stillOf next x ≡ true → le zero· (slopeOf (v .gradient) next x) ≡ true
+  module _ (h : admittedOf r ls ≡ true) where
+    moves : (x : List Float) (v : Totals) → Boxed r x → Known v → (k : ℕ) → let next = candidateOf x (directionAtOf (lowOf r) (highOf r) x v) (shareOf k) (lowOf r) (highOf r) in stillOf next x ≡ true → le zero· (slopeOf (v .gradient) next x) ≡ true
     moves x v b q k s = still-not-downhill (v .gradient) _ x (q .finite .slopes) (inside-finite (lowOf r) (highOf r) x (the-box r ls h) (b .inside)) s
 
     iterations : r .iterations .0 ≤ 1000
-    unfolding admits validControls
-    iterations = most-iterations (r .iterations .0) (validBoxes r) (leb 1 (r .evaluations .0)) (leb (r .evaluations .0) 1000) (leb 1 (r .iterations .0)) (isFinite (r .tolerance) && lt zero· (r .tolerance)) (validLitters ls && twoEach ls) h
+    unfolding admittedOf validControlsOf
+    iterations = most-iterations (r .iterations .0) (validBoxesOf r) (leb 1 (r .evaluations .0)) (leb (r .evaluations .0) 1000) (leb 1 (r .iterations .0)) (isFiniteOf (r .tolerance) && lt zero· (r .tolerance)) (validLittersOf ls && twoEachOf ls) h
 
     abbrev turns : ℕ
     turns = problemOf (planOf r) .turns
@@ -196,5 +196,5 @@ module _ (r : Request) (ls : List ℕ) where
   unfolding whyFor
   most-trials n l =
       split (validLimit (r .quadrature .0))
-      (λ t. split (admits r ls) (λ a. rw (t, a) (admitted-most a n l)) (λ a. rw (t, a)))
+      (λ t. split (admittedOf r ls) (λ a. rw (t, a) (admitted-most a n l)) (λ a. rw (t, a)))
       (λ t. rw t)

@@ -25,7 +25,7 @@ use Rattle.descent.specs.Descent.{Asked, Descended, descent}
 use Rattle.descent.specs.declared.Trial.the-variants.{ByRounding}
 use Rattle.descent.specs.Claims.{Among, newest, older, Rounded}
 use Rattle.request.specs.declared.Request.{Request}
-use Rattle.request.specs.Request.{admits, validLimit, startOf}
+use Rattle.request.specs.Request.{admittedOf, validLimit, startOf}
 use Rattle.trial.specs.Watch.{trialAt}
 use Rattle.stepper.specs.Machine.{problemOf}
 use Rattle.course.specs.Course.{trialIn, trialsIn}
@@ -111,7 +111,7 @@ module _ (r : Request) (ls : List ℕ) (n : ℕ) (h : 1 ≤ n) where
   watched-among t e =
       let d = descentOf r ls in
       let ts = trialsIn (d .ended) (d .asked) in
-      let k = sym (whole-why r ls n) ∙ shown-why (whyIn n (wholeOf r ls n)) (validLimit (r .quadrature .0)) (admits r ls) t e in
+      let k = sym (whole-why r ls n) ∙ shown-why (whyIn n (wholeOf r ls n)) (validLimit (r .quadrature .0)) (admittedOf r ls) t e in
       made-among n ts (leb n (length ts + 1) && trialIn (d .asked)) (endOf (d .ended)) t h (rw (le-ltb n 1 h) at k)
 
   pub watched-rounding-step : (a : Float) → whyFor r ls n ≡ Made (ByRounding a) → Rounded (problemOf (planOf r)) (Visited r ls) a

@@ -11,7 +11,7 @@ use work::FitEvaluations;
 use work::Iterations;
 use work::QuadratureEvaluations;
 ghost use mathlib.Core.Path.{_≡_};
-ghost use Rattle.fit.specs.Fit.{planOf, sdsOf, onBound, activeOf, refusedOf, reportedOf, seenOf, unfitOf, fitOf, watchedOf};
+ghost use Rattle.fit.specs.Fit.{planOf, sdsOf, onBoundOf, activeOf, refusedOf, reportedOf, fitAdmittedOf, unfitOf, fitOf, watchedOf};
 
 // The coordinates are two means, then two variances: gradient, Hessian (by rows) and `active`, which marks those that lie on a bound, go by them.
 pub struct Fit {
@@ -83,7 +83,7 @@ fn sds(r: Request, x: [f64; 4]) -> [f64; 2]
 }
 
 fn on_bound(x: f64, lo: f64, hi: f64) -> bool
-    ensures { λ r. ⌜ r ≡ onBound x lo hi ⌝ }
+    ensures { λ r. ⌜ r ≡ onBoundOf x lo hi ⌝ }
 {
     num::either(x == lo, x == hi)
 }
@@ -141,7 +141,7 @@ fn reported(r: Request, n: u64, d: Course) -> Fit
 }
 
 fn fit_admitted(r: Request, litters: &[u32], wanted: u64) -> Seen
-    ensures { λ s. ⌜ s ≡ seenOf r (now (litters .entry)) wanted ⌝ }
+    ensures { λ s. ⌜ s ≡ fitAdmittedOf r (now (litters .entry)) wanted ⌝ }
 {
     let n = litters.len() / 3;
     let d = drive::run(

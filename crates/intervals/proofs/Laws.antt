@@ -11,15 +11,15 @@ use lib.ListN.{length, getD}
 use lib.Ieee.{Float, nan}
 use Rattle.num.specs.F64.{_⊕_, _⊖_, _⊗_, _⊘_}
 use Rattle.num.specs.Choose.{then, else, by-not-true}
-use Rattle.put.specs.Stored.{stored}
+use Rattle.store.specs.Stored.{stored}
 use Rattle.num.specs.Left.{left-one, left-none}
 use Rattle.intervals.specs.declared.factor.Factor.{Factor}
 use Rattle.intervals.specs.declared.interval.Interval.{Interval}
 use Rattle.intervals.specs.declared.answer.Intervals.{Intervals}
-use Rattle.finite.specs.Finite.{allFinite}
+use Rattle.finite.specs.Finite.{allFiniteOf}
 use Rattle.intervals.specs.Shape.{shapedOf, markedOf}
 use Rattle.intervals.specs.Passed.{few, same-length, few-errors, by-rows}
-use Rattle.intervals.specs.Factor.{at, asymmetricOf, low, productsFrom, productsOf, faultOf, heldOf, keptOf, diagonalOf, entryOf, rowFrom, lineOf, factorFrom, factorOf}
+use Rattle.intervals.specs.Factor.{at, asymmetricOf, low, productsFrom, productsOf, faultOf, heldOf, keptOf, diagonalOf, entryOf, rowFrom, lineOf, factorFrom, factoredOf}
 use Rattle.intervals.specs.Interval.{askedOf}
 use Rattle.intervals.specs.Intervals.{answeredOf, refusalOf, placedOf, collectedFrom, collectedOf, intervalsOf, Filled, filled, intervalsPut, intervalsFilled}
 
@@ -112,12 +112,12 @@ module _ (estimates covariance errors : List Float) (marks : ℕ) (r : Intervals
   unfolding intervalsOf
   answer-shape h o = rw (← u, not-true t h) o
 
-  module _ (h : not t ≡ false) (b : Bool) (w : b ≡ allFinite covariance) where
+  module _ (h : not t ≡ false) (b : Bool) (w : b ≡ allFiniteOf covariance) where
     pub answer-finite : not b ≡ true → r ≡ refusalOf 1 → r ≡ intervalsOf estimates covariance errors marks
     unfolding intervalsOf
     answer-finite k o = rw (← u, not-false t h, ← w, not-true b k) o
 
-    module _ (k : not b ≡ false) (f : Factor) (x : f ≡ factorOf covariance errors) where
+    module _ (k : not b ≡ false) (f : Factor) (x : f ≡ factoredOf covariance errors) where
       pub answer-factor : not (f .holds) ≡ true → r ≡ refusalOf 1 → r ≡ intervalsOf estimates covariance errors marks
       unfolding intervalsOf
       answer-factor l o = rw (← u, not-false t h, ← w, not-false b k, ← x) (else _ _ _ r (not-true (f .holds) l) o)

@@ -6,7 +6,7 @@ use lib.Dec.{eqb}
 use lib.ListN.{length, getD, set, replicate}
 use lib.Ieee.{Float, nan, lt, le}
 use Rattle.num.specs.F64.{bits, zero·, _⊕_, _⊖_, _⊗_, _⊘_}
-use Rattle.num.specs.Helpers.{absOf, isFinite, maxOf}
+use Rattle.num.specs.Helpers.{absOf, isFiniteOf, maxOf}
 use Rattle.root.specs.Steps.{sqrtOf}
 use Rattle.intervals.specs.declared.factor.Factor.{Factor}
 
@@ -29,7 +29,7 @@ unfoldable pub apartOf : Float → Float → Bool
 apartOf error root = lt (agreement· ⊗ maxOf (absOf error) root) (absOf (error ⊖ root))
 
 unfoldable pub disagreesOf : Float → Float → Bool
-disagreesOf variance error = cond (le variance zero·) true (cond (isFinite error) (cond (le error zero·) true (apartOf error (sqrtOf variance))) true)
+disagreesOf variance error = cond (le variance zero·) true (cond (isFiniteOf error) (cond (le error zero·) true (apartOf error (sqrtOf variance))) true)
 
 unfoldable pub asymmetricOf : Float → Float → Bool
 asymmetricOf a b = lt (maxOf least· (relative· ⊗ maxOf (absOf a) (absOf b))) (absOf (a ⊖ b))
@@ -57,7 +57,7 @@ keptOf lower i j x = heldOf (set lower (8 * i + j) x)
 
 -- positive definite: each diagonal's value is finite and positive
 unfoldable pub diagonalOf : List Float → ℕ → Float → Factor
-diagonalOf lower i value = cond (isFinite value) (cond (le value zero·) (faultOf lower) (keptOf lower i i (sqrtOf value))) (faultOf lower)
+diagonalOf lower i value = cond (isFiniteOf value) (cond (le value zero·) (faultOf lower) (keptOf lower i i (sqrtOf value))) (faultOf lower)
 
 abbrev pub valueOf : List Float → ℕ → ℕ → ℕ → List Float → Float
 valueOf covariance n i j lower = at covariance n i j ⊖ productsOf lower i j
@@ -85,5 +85,5 @@ factorFrom covariance errors zero i lower = heldOf lower
 factorFrom covariance errors (suc m) i lower =
     let e = lineOf covariance (length errors) i (getD errors i nan) lower in cond (e .holds) (factorFrom covariance errors m (i + 1) (e .lower)) e
 
-unfoldable pub factorOf : List Float → List Float → Factor
-factorOf covariance errors = factorFrom covariance errors (length errors) 0 (replicate 64 zero·)
+unfoldable pub factoredOf : List Float → List Float → Factor
+factoredOf covariance errors = factorFrom covariance errors (length errors) 0 (replicate 64 zero·)

@@ -3,7 +3,7 @@ use mathlib.Core.Bool.{Bool, _&&_, cond}
 use Prim.Native.Nat.{ℕ}
 use lib.Ieee.{Float, lt, le}
 use Rattle.num.specs.F64.{bits, zero·, _⊕_, _⊖_, _⊗_, _⊘_}
-use Rattle.num.specs.Helpers.{isFinite}
+use Rattle.num.specs.Helpers.{isFiniteOf}
 use Rattle.elementary.specs.Exp.{expOf}
 use Rattle.elementary.specs.Log.{logOf}
 use Rattle.intervals.specs.declared.interval.Interval.{Interval}
@@ -27,7 +27,7 @@ noneOf end = record { end = end; error = zero·; lower = zero·; upper = zero· 
 
 -- lower above 0, lower below upper, upper finite: what is not a number fails
 unfoldable pub properOf : Float → Float → Float → Bool
-properOf error lower upper = isFinite error && ((lt zero· lower && lt lower upper) && isFinite upper)
+properOf error lower upper = isFiniteOf error && ((lt zero· lower && lt lower upper) && isFiniteOf upper)
 
 unfoldable pub judgedOf : Float → Float → Float → Interval
 judgedOf error lower upper = cond (properOf error lower upper) (record { end = answered; error = error; lower = lower; upper = upper }) (noneOf unsupported)
@@ -35,10 +35,10 @@ judgedOf error lower upper = cond (properOf error lower upper) (record { end = a
 abbrev pub transformedOf : Float → Float → Interval
 transformedOf estimate log = judgedOf log (expOf (logOf estimate ⊖ z95· ⊗ log)) (expOf (logOf estimate ⊕ z95· ⊗ log))
 
-unfoldable pub intervalOf : Float → Float → Interval
-intervalOf estimate error =
-    cond (isFinite estimate) (cond (le estimate zero·) (noneOf invalidInput) (transformedOf estimate (error ⊘ estimate))) (noneOf invalidInput)
+unfoldable pub logIntervalOf : Float → Float → Interval
+logIntervalOf estimate error =
+    cond (isFiniteOf estimate) (cond (le estimate zero·) (noneOf invalidInput) (transformedOf estimate (error ⊘ estimate))) (noneOf invalidInput)
 
 -- an estimate that is not marked is not looked at
 unfoldable pub askedOf : Bool → Float → Float → Interval
-askedOf marked estimate error = cond marked (intervalOf estimate error) (noneOf answered)
+askedOf marked estimate error = cond marked (logIntervalOf estimate error) (noneOf answered)

@@ -6,12 +6,12 @@ use lib.Dec.{ltb, leb}
 use lib.ListN.{length, getD, set, replicate}
 use lib.Ieee.{Float, nan}
 use Rattle.num.specs.F64.{zero·}
-use Rattle.put.specs.Stored.{stored}
+use Rattle.store.specs.Stored.{stored}
 use Rattle.intervals.specs.declared.interval.Interval.{Interval}
 use Rattle.intervals.specs.declared.answer.Intervals.{Intervals}
-use Rattle.finite.specs.Finite.{allFinite}
+use Rattle.finite.specs.Finite.{allFiniteOf}
 use Rattle.intervals.specs.Shape.{shapedOf, markedOf}
-use Rattle.intervals.specs.Factor.{factorOf}
+use Rattle.intervals.specs.Factor.{factoredOf}
 use Rattle.intervals.specs.Interval.{answered, invalidInput, askedOf}
 
 abbrev pub answeredOf : List Float → Intervals
@@ -37,7 +37,7 @@ collectedOf estimates errors marks = collectedFrom estimates errors marks (lengt
 unfoldable pub intervalsOf : List Float → List Float → List Float → ℕ → Intervals
 intervalsOf estimates covariance errors marks =
     cond (shapedOf (length estimates) (length covariance) (length errors) marks)
-    (cond (allFinite covariance) (cond (factorOf covariance errors .holds) (collectedOf estimates errors marks) (refusalOf invalidInput)) (refusalOf invalidInput))
+    (cond (allFiniteOf covariance) (cond (factoredOf covariance errors .holds) (collectedOf estimates errors marks) (refusalOf invalidInput)) (refusalOf invalidInput))
     (refusalOf invalidInput)
 
 -- a call's value, and what its buffer holds after it

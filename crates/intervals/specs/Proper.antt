@@ -11,25 +11,25 @@ use lib.ListN.{length, getD, set, length-set, replicate}
 use lib.Seq.{getD-set-same, getD-set-other}
 use lib.Ieee.{Float, nan, inf, fin, lt, le, ofBits}
 use Rattle.num.specs.F64.{zero·, _⊘_}
-use Rattle.num.specs.Helpers.{isFinite}
+use Rattle.num.specs.Helpers.{isFiniteOf}
 use Rattle.intervals.specs.declared.interval.Interval.{Interval}
 use Rattle.intervals.specs.declared.answer.Intervals.{Intervals}
-use Rattle.finite.specs.Finite.{allFinite}
+use Rattle.finite.specs.Finite.{allFiniteOf}
 use Rattle.intervals.specs.Shape.{shapedOf, markedOf}
 use Rattle.intervals.specs.Passed.{left, right, few}
-use Rattle.intervals.specs.Factor.{factorOf}
-use Rattle.intervals.specs.Interval.{noneOf, properOf, judgedOf, transformedOf, intervalOf, askedOf}
+use Rattle.intervals.specs.Factor.{factoredOf}
+use Rattle.intervals.specs.Interval.{noneOf, properOf, judgedOf, transformedOf, logIntervalOf, askedOf}
 use Rattle.intervals.specs.Intervals.{refusalOf, placedOf, collectedFrom, collectedOf, intervalsOf}
 
 pub record Proper (lower upper : Float) : Type 0 where
   pub positive : lt zero· lower ≡ true
   pub increasing : lt lower upper ≡ true
-  pub finite-lower : isFinite lower ≡ true
-  pub finite-upper : isFinite upper ≡ true
+  pub finite-lower : isFiniteOf lower ≡ true
+  pub finite-upper : isFiniteOf upper ≡ true
 
 -- what lies above zero and below another number is finite
-between : (x y : Float) → lt zero· x ≡ true → lt x y ≡ true → isFinite x ≡ true
-unfolding lt ofBits isFinite
+between : (x y : Float) → lt zero· x ≡ true → lt x y ≡ true → isFiniteOf x ≡ true
+unfolding lt ofBits isFiniteOf
 between nan y a b = absurd (true≢false (sym a))
 between (inf true) y a b = absurd (true≢false (sym a))
 between (inf false) nan a b = absurd (true≢false (sym b))
@@ -41,11 +41,11 @@ between (fin s m e) y a b = refl
 passed : (error lower upper : Float) → properOf error lower upper ≡ true → Proper lower upper
 unfolding properOf
 passed error lower upper h =
-    let k = right (isFinite error) ((lt zero· lower && lt lower upper) && isFinite upper) h in
-    let o = left (lt zero· lower && lt lower upper) (isFinite upper) k in
+    let k = right (isFiniteOf error) ((lt zero· lower && lt lower upper) && isFiniteOf upper) h in
+    let o = left (lt zero· lower && lt lower upper) (isFiniteOf upper) k in
     let a = left (lt zero· lower) (lt lower upper) o in
     let b = right (lt zero· lower) (lt lower upper) o in
-    record { positive = a; increasing = b; finite-lower = between lower upper a b; finite-upper = right (lt zero· lower && lt lower upper) (isFinite upper) k }
+    record { positive = a; increasing = b; finite-lower = between lower upper a b; finite-upper = right (lt zero· lower && lt lower upper) (isFiniteOf upper) k }
 
 -- ---- one interval
 
@@ -63,10 +63,10 @@ judged-proper : (error lower upper : Float) → IsProper (judgedOf error lower u
 unfolding judgedOf
 judged-proper error lower upper = by-test (properOf error lower upper) _ (noneOf 8) (λ h e. passed error lower upper h) (λ h. none-proper 7)
 
-pub interval-proper : (estimate error : Float) → IsProper (intervalOf estimate error)
-unfolding intervalOf
+pub interval-proper : (estimate error : Float) → IsProper (logIntervalOf estimate error)
+unfolding logIntervalOf
 interval-proper estimate error =
-    by-test (isFinite estimate) _ (noneOf 1)
+    by-test (isFiniteOf estimate) _ (noneOf 1)
     (λ h. by-test (le estimate zero·) (noneOf 1) (transformedOf estimate (error ⊘ estimate)) (λ k. none-proper 0) (λ k. judged-proper _ _ _))
     (λ h. none-proper 0)
 
@@ -163,8 +163,8 @@ module _ (estimates covariance errors : List Float) (marks : ℕ) where
   unfolding intervalsOf
   collects h =
       let a = accept (shapedOf (length estimates) (length covariance) (length errors) marks) _ h in
-      let b = accept (allFinite covariance) _ (ap (λ (x : Intervals). x .end) (sym (a .1)) ∙ h) in
-      let c = accept (factorOf covariance errors .holds) _ (ap (λ (x : Intervals). x .end) (sym (b .1)) ∙ ap (λ (x : Intervals). x .end) (sym (a .1)) ∙ h) in
+      let b = accept (allFiniteOf covariance) _ (ap (λ (x : Intervals). x .end) (sym (a .1)) ∙ h) in
+      let c = accept (factoredOf covariance errors .holds) _ (ap (λ (x : Intervals). x .end) (sym (b .1)) ∙ ap (λ (x : Intervals). x .end) (sym (a .1)) ∙ h) in
       (few (length estimates) (length covariance) (length errors) marks (a .0), a .1 ∙ b .1 ∙ c .1)
 
   pub marked-proper : (i : ℕ) → answer .end ≡ 0 → i < length estimates → markedOf marks i ≡ true → Proper (getD (answer .numbers) (3 * i + 1) nan) (getD (answer .numbers) (3 * i + 2) nan)

@@ -81,7 +81,7 @@ fn put(a: Intervals, numbers: &mut [f64]) -> u64
     ensures { λ r. ⌜ filled r (now (numbers .exit)) ≡ intervalsPut a (now (numbers .entry)) ⌝ }
 {
     let n = numbers_of(a);
-    put::numbers(&n, numbers);
+    store::numbers(&n, numbers);
     a.end
 }
 

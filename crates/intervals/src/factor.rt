@@ -2,7 +2,7 @@
 ghost use mathlib.Core.Path.{_≡_};
 ghost use Prim.Native.Nat.{_*_, _<_, _≤_};
 ghost use lib.ListN.{length};
-ghost use Rattle.intervals.specs.Factor.{at, apartOf, disagreesOf, asymmetricOf, productsOf, keptOf, diagonalOf, entryOf, rowOf, lineOf, factorOf};
+ghost use Rattle.intervals.specs.Factor.{at, apartOf, disagreesOf, asymmetricOf, productsOf, keptOf, diagonalOf, entryOf, rowOf, lineOf, factoredOf};
 
 pub struct Factor {
     pub holds: bool,
@@ -141,7 +141,7 @@ fn line(covariance: &[f64], n: usize, i: usize, error: f64, lower: [f64; 64]) ->
 
 pub fn factored(covariance: &[f64], errors: &[f64]) -> Factor
     requires { ⌜ (length (now errors) ≤ 8) × (length (now covariance) ≡ length (now errors) * length (now errors)) ⌝ }
-    ensures { λ r. ⌜ (r ≡ factorOf (now (covariance .entry)) (now (errors .entry))) × (now (covariance .exit) ≡ now (covariance .entry)) × (now (errors .exit) ≡ now (errors .entry)) ⌝ }
+    ensures { λ r. ⌜ (r ≡ factoredOf (now (covariance .entry)) (now (errors .entry))) × (now (covariance .exit) ≡ now (covariance .entry)) × (now (errors .exit) ≡ now (errors .entry)) ⌝ }
 {
     let mut l = [0.0; 64];
     for i in 0..errors.len() {

@@ -1,6 +1,6 @@
 // One estimate's interval in the log coordinate. Its end is 0, 1 for InvalidInput, 8 for Unsupported; with a refusal all is zero.
 ghost use mathlib.Core.Path.{_≡_};
-ghost use Rattle.intervals.specs.Interval.{noneOf, properOf, judgedOf, intervalOf, askedOf};
+ghost use Rattle.intervals.specs.Interval.{noneOf, properOf, judgedOf, logIntervalOf, askedOf};
 
 const Z95: f64 = 1.959963984540054;
 
@@ -48,7 +48,7 @@ fn judged(error: f64, lower: f64, upper: f64) -> Interval
 }
 
 pub fn log_interval(estimate: f64, error: f64) -> Interval
-    ensures { λ r. ⌜ r ≡ intervalOf estimate error ⌝ }
+    ensures { λ r. ⌜ r ≡ logIntervalOf estimate error ⌝ }
 {
     if !num::is_finite(estimate) {
         return none(1);

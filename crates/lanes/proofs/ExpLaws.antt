@@ -11,7 +11,7 @@ use lib.ListN.{getD}
 use lib.Ieee.{Float, nan, neg, lt}
 use Rattle.num.specs.F64.{zero·, infinity·}
 use Rattle.tables.specs.declared.exp.ExpRow.{ExpRow}
-use Rattle.tables.specs.Exp.{expRow}
+use Rattle.tables.specs.Exp.{expRowOf}
 use Rattle.elementary.specs.Exp.{expOf, expBelow, expAbove, expFinish, expReduced, expSum, expWhole, expPlace, expByRow, exp-low, exp-high, three-eighths}
 use Rattle.lanes.specs.Lanes.{nth, expsOf}
 use Rattle.lanes.specs.ExpParts.{noExpRow, expPlaces, expRowsFor, expsByRow, first-e, last-e, expOutside, expChosen, expsChosen}
@@ -41,13 +41,13 @@ module _ (x : Float) where
   above-by l = passed-high (lt exp-low (expSum x)) (lt (expSum x) exp-high) (expWhole (expSum x)) (λ m. expFinish m (expReduced x (expSum x))) infinity· l
 
   -- ---- the value by row
-  by-finish : (m : ℕ) → 1100 ≤ m / 64 → m / 64 ≤ 3070 → expByRow x m (expRow (m % 64)) ≡ expFinish m (expReduced x (expSum x))
+  by-finish : (m : ℕ) → 1100 ≤ m / 64 → m / 64 ≤ 3070 → expByRow x m (expRowOf (m % 64)) ≡ expFinish m (expReduced x (expSum x))
   unfolding expByRow expFinish
   by-finish m a b =
       let s : (m / 64 + 1023) % 2048 ≡ m / 64 - 1025 = omega arith in
       rw (le-ltb (m / 64) 1100 a, le-ltb 3070 (m / 64) b, s)
 
-  outside-is : (m : ℕ) (y : Float) → expOf x ≡ y → (1100 ≤ m / 64 → y ≡ expFinish m (expReduced x (expSum x))) → expOutside x m (expByRow x m (expRow (m % 64))) ≡ y
+  outside-is : (m : ℕ) (y : Float) → expOf x ≡ y → (1100 ≤ m / 64 → y ≡ expFinish m (expReduced x (expSum x))) → expOutside x m (expByRow x m (expRowOf (m % 64))) ≡ y
   unfolding expOutside
   outside-is m y e f =
       cases (ltb (m / 64) first-e) (λ a. rw a e)
@@ -63,7 +63,7 @@ module _ (x : Float) where
   unfolding expOf
   of-above h k = rw (h, k)
 
-  chosen-is : expChosen x (expPlace x) (expByRow x (expPlace x) (expRow (expPlace x % 64))) ≡ expOf x
+  chosen-is : expChosen x (expPlace x) (expByRow x (expPlace x) (expRowOf (expPlace x % 64))) ≡ expOf x
   unfolding expChosen expOf
   chosen-is =
       cases (lt x (neg three-eighths)) (λ h. rw h (outside-is (expPlace x) (expBelow x) (of-below h) below-by))
@@ -75,9 +75,9 @@ module _ (j : ℕ) (l : j < 16) where
   unfolding expPlaces
   place-at x = at-place (λ i. expPlace (getD x i nan)) j 0 l
 
-  row-at : (m : List ℕ) → getD (expRowsFor m) j noExpRow ≡ expRow (getD m j 0 % 64)
+  row-at : (m : List ℕ) → getD (expRowsFor m) j noExpRow ≡ expRowOf (getD m j 0 % 64)
   unfolding expRowsFor
-  row-at m = at-place (λ i. expRow (getD m i 0 % 64)) j noExpRow l
+  row-at m = at-place (λ i. expRowOf (getD m i 0 % 64)) j noExpRow l
 
   value-at : (x : List Float) (m : List ℕ) (rows : List ExpRow) → getD (expsByRow x m rows) j nan ≡ expByRow (getD x j nan) (getD m j 0) (getD rows j noExpRow)
   unfolding expsByRow

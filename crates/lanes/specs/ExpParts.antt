@@ -6,7 +6,7 @@ use lib.Dec.{ltb}
 use lib.ListN.{getD}
 use lib.Ieee.{Float, nan, neg, lt}
 use Rattle.tables.specs.declared.exp.ExpRow.{ExpRow}
-use Rattle.tables.specs.Exp.{expRow}
+use Rattle.tables.specs.Exp.{expRowOf}
 use Rattle.elementary.specs.Exp.{expOf, expSmall, expPlace, expByRow, three-eighths}
 use Rattle.lanes.specs.Lanes.{values}
 
@@ -17,7 +17,7 @@ unfoldable pub expPlaces : List Float → List ℕ
 expPlaces x = values (λ i. expPlace (getD x i nan)) 16 0
 
 unfoldable pub expRowsFor : List ℕ → List ExpRow
-expRowsFor m = values (λ i. expRow (getD m i 0 % 64)) 16 0
+expRowsFor m = values (λ i. expRowOf (getD m i 0 % 64)) 16 0
 
 unfoldable pub expsByRow : List Float → List ℕ → List ExpRow → List Float
 expsByRow x m rows = values (λ i. expByRow (getD x i nan) (getD m i 0) (getD rows i noExpRow)) 16 0

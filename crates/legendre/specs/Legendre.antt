@@ -21,8 +21,8 @@ unfoldable pub degrees : Float → ℕ → ℕ → Float → Float → Polynomia
 degrees x zero j p0 p1 = record { p0 = p0; p1 = p1 }
 degrees x (suc n) j p0 p1 = degrees x n (j + 1) p1 ((whole (2 * j - 1) ⊗ x ⊗ p1 ⊖ whole (j - 1) ⊗ p0) ⊘ whole j)
 
-unfoldable pub polynomialOf : Float → Polynomial
-polynomialOf x = degrees x 15 2 one· x
+unfoldable pub recurrenceOf : Float → Polynomial
+recurrenceOf x = degrees x 15 2 one· x
 
 abbrev pub derivativeAt : Float → Polynomial → Float
 derivativeAt x p = sixteen ⊗ (x ⊗ p .p1 ⊖ p .p0) ⊘ (x ⊗ x ⊖ one·)
@@ -38,7 +38,7 @@ small-move = bits 0x3cac_d2b2_97d8_89bc
 unfoldable pub newtonFrom : ℕ → Float → Float → Node
 newtonFrom zero x derivative = record { x = x; derivative = derivative }
 newtonFrom (suc n) x derivative =
-    let p = polynomialOf x in
+    let p = recurrenceOf x in
     let next = nextFrom x p in
     cond (lt (absOf (next ⊖ x)) small-move) (record { x = next; derivative = derivativeAt x p }) (newtonFrom n next (derivativeAt x p))
 
@@ -46,15 +46,15 @@ unfoldable pub newtonOf : Float → Node
 newtonOf start = newtonFrom 20 start zero·
 
 -- the k-th pair, k from 1 to 16
-unfoldable pub pairOf : ℕ → Pair
-pairOf k =
+unfoldable pub nodeAndWeightOf : ℕ → Pair
+nodeAndWeightOf k =
     let n = newtonOf (cosOf (pi ⊗ (whole k ⊖ quarter·) ⊘ (sixteen ⊕ half·))) in
     record { x = n .x; w = two· ⊘ ((one· ⊖ n .x ⊗ n .x) ⊗ n .derivative ⊗ n .derivative) }
 
 -- n pairs, from the k-th on
 unfoldable pub pairs : ℕ → ℕ → List Pair
 pairs zero k = []
-pairs (suc n) k = pairOf k ∷ pairs n (k + 1)
+pairs (suc n) k = nodeAndWeightOf k ∷ pairs n (k + 1)
 
 unfoldable pub legendreOf : List Pair
 legendreOf = pairs 16 1

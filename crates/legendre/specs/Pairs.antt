@@ -7,7 +7,7 @@ use Rattle.num.specs.F64.{bits}
 use Rattle.num.specs.Helpers.{absOf}
 use Rattle.elementary.specs.Cos.{cosOf}
 use Rattle.legendre.specs.declared.Pair.{Pair}
-use Rattle.legendre.specs.Legendre.{degrees, polynomialOf, newtonFrom, newtonOf, pairOf, pairs, legendreOf}
+use Rattle.legendre.specs.Legendre.{degrees, recurrenceOf, newtonFrom, newtonOf, nodeAndWeightOf, pairs, legendreOf}
 
 -- a node and its weight
 abbrev pub pair : ℕ → ℕ → Pair
@@ -35,5 +35,5 @@ table =
 
 -- antt computes both sides
 pub pairs-are : legendreOf ≡ table
-unfolding table degrees polynomialOf newtonFrom newtonOf pairOf pairs legendreOf cosOf absOf add sub mul div neg lt le ofBits ofInt toBits
+unfolding table degrees recurrenceOf newtonFrom newtonOf nodeAndWeightOf pairs legendreOf cosOf absOf add sub mul div neg lt le ofBits ofInt toBits
 pairs-are = refl

@@ -1,6 +1,6 @@
 // The Gauss-Legendre rule of sixteen nodes, from its polynomial's recurrence.
 ghost use mathlib.Core.Path.{_≡_};
-ghost use Rattle.legendre.specs.Legendre.{polynomialOf, newtonOf, pairOf, legendreOf};
+ghost use Rattle.legendre.specs.Legendre.{recurrenceOf, newtonOf, nodeAndWeightOf, legendreOf};
 
 const PI: f64 = 3.141592653589793;
 
@@ -23,7 +23,7 @@ pub struct Node {
 }
 
 fn recurrence(x: f64) -> Polynomial
-    ensures { λ r. ⌜ r ≡ polynomialOf x ⌝ }
+    ensures { λ r. ⌜ r ≡ recurrenceOf x ⌝ }
 {
     let mut p0 = 1.0;
     let mut p1 = x;
@@ -58,7 +58,7 @@ fn newton(start: f64) -> Node
 
 // The k-th pair, k from 1 to 16.
 fn node_and_weight(k: u32) -> Pair
-    ensures { λ r. ⌜ r ≡ pairOf k ⌝ }
+    ensures { λ r. ⌜ r ≡ nodeAndWeightOf k ⌝ }
 {
     let n = newton(elementary::cos::cos(PI * (k as f64 - 0.25) / (16.0 + 0.5)));
     Pair {

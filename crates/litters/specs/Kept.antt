@@ -6,8 +6,9 @@ use native.Mathlib.Omega.{arith}
 use lib.ListN.{length, length-set, set, take, drop, replicate}
 use lib.Seq.{sets, sets-eq, set-out, take-suc-set, take-append-seam}
 use Rattle.litters.specs.declared.Litter.{Litter}
-use Rattle.litters.specs.declared.Table.{Table}
-use Rattle.litters.specs.Litters.{numbersOf, rowIn, noRows, withRow, withRows}
+use Rattle.litters.specs.declared.table.Table.{Table}
+use Rattle.litters.specs.Litters.{numbersOf}
+use Rattle.litters.specs.Table.{rowIn, noRows, setRowOf, withRows}
 
 pub row-length : (b : List ℕ) (i x y z : ℕ) → length (rowIn b i x y z) ≡ length b
 row-length b i x y z = simp length-set
@@ -30,7 +31,7 @@ module _ (b : List ℕ) (n x y z : ℕ) (room : 3 * n + 2 < length b) where
 out : (b : List ℕ) (i x y z : ℕ) → length b ≤ 3 * i → rowIn b i x y z ≡ b
 out b i x y z h = rw (set-out b (3 * i) x h, set-out b (3 * i + 1) y (omega arith), set-out b (3 * i + 2) z (omega arith))
 
-pub row-out : (t : Table) (i : ℕ) (l : Litter) → length (t .numbers) ≡ 384 → 128 ≤ i → t ≡ withRow t i l
+pub row-out : (t : Table) (i : ℕ) (l : Litter) → length (t .numbers) ≡ 384 → 128 ≤ i → t ≡ setRowOf t i l
 row-out t i l s h = λ j. record { numbers = sym (out (t .numbers) i (l .successes) (l .total) (l .group) (omega arith)) j }
 
 -- a table with each litter is a run of stores
@@ -41,7 +42,7 @@ rows-set (l ∷ ls) i t =
     let e : 3 * (i + 1) ≡ suc (suc (suc (3 * i))) = omega arith in
     let f : 3 * i + 2 ≡ suc (suc (3 * i)) = omega arith in
     let g : 3 * i + 1 ≡ suc (3 * i) = omega arith in
-    rows-set ls (i + 1) (withRow t i l) ∙ rw (e, f, g)
+    rows-set ls (i + 1) (setRowOf t i l) ∙ rw (e, f, g)
 
 pub numbers-long : (ls : List Litter) → length (numbersOf ls) ≡ 3 * length ls
 unfolding numbersOf

@@ -1,46 +1,22 @@
--- A list of litters as the numbers that the core takes, three a litter, and the table that the code keeps them in.
-use mathlib.Core.Bool.{cond}
+-- A litter is three numbers: successes, total, group. A run of litters is a list of numbers, three a litter, where the i-th litter's stand from 3 i on.
 use mathlib.Core.List.{List, [], _∷_}
 use Prim.Native.Nat.{ℕ, _+_, _*_, _/_}
-use lib.Dec.{leb}
-use lib.ListN.{set, take, replicate}
+use lib.ListN.{length, getD}
 use Rattle.litters.specs.declared.Litter.{Litter}
-use Rattle.litters.specs.declared.Table.{Table}
 
--- successes, total, group
+abbrev pub countOf : List ℕ → ℕ
+countOf ls = length ls / 3
+
+abbrev pub successesAt : List ℕ → ℕ → ℕ
+successesAt ls i = getD ls (3 * i) 0
+
+abbrev pub totalAt : List ℕ → ℕ → ℕ
+totalAt ls i = getD ls (3 * i + 1) 0
+
+abbrev pub groupAt : List ℕ → ℕ → ℕ
+groupAt ls i = getD ls (3 * i + 2) 0
+
+-- the run of a list of records
 unfoldable pub numbersOf : List Litter → List ℕ
 numbersOf [] = []
 numbersOf (l ∷ ls) = l .successes ∷ l .total ∷ l .group ∷ numbersOf ls
-
--- a row, the three numbers of litter i, put into its place; past the last place nothing is put
-abbrev pub rowIn : List ℕ → ℕ → ℕ → ℕ → ℕ → List ℕ
-rowIn b i successes total group = set (set (set b (3 * i) successes) (3 * i + 1) total) (3 * i + 2) group
-
--- ---- the code's table
-
--- what is read past the end of a list
-abbrev pub noLitter : Litter
-noLitter = record { successes = 0; total = 0; group = 0 }
-
-abbrev pub noRows : Table
-noRows = record { numbers = replicate 384 0 }
-
--- the i-th litter put into its place
-abbrev pub withRow : Table → ℕ → Litter → Table
-withRow t i l = record { numbers = rowIn (t .numbers) i (l .successes) (l .total) (l .group) }
-
--- the first of them at the i-th place
-abbrev pub withRows : List Litter → ℕ → Table → Table
-withRows [] i t = t
-withRows (l ∷ ls) i t = withRows ls (i + 1) (withRow t i l)
-
--- how many numbers are handed on for n litters
-abbrev pub roomOf : ℕ → ℕ
-roomOf n = cond (leb n 128) (3 * n) 0
-
--- the same of n numbers that are lent as such
-abbrev pub handedOn : ℕ → ℕ
-handedOn n = cond (leb (n / 3) 128) n 0
-
-abbrev pub keptOf : List ℕ → ℕ → List ℕ
-keptOf ns n = take (roomOf n) ns

@@ -1,68 +1,12 @@
-// Litters as a lent run of records, and the table that keeps their numbers.
-// The borrow checker does not cover a slice of structs, so `to_table` is proved by a walk, by hand.
-ghost use mathlib.Core.Path.{_≡_};
-ghost use Prim.Native.Nat.{_≤_};
-ghost use Rattle.litters.specs.Litters.{noRows, withRow, withRows, roomOf, handedOn};
+// Litters: what one is, when a run of them is valid, how many are of a group, and the table that keeps records' numbers.
+// A run is lent numbers, three a litter: successes, total, group.
+pub mod four;
+pub mod groups;
+pub mod table;
+pub mod valid;
 
 pub struct Litter {
     pub successes: u32,
     pub total: u32,
     pub group: u32,
-}
-
-// The numbers of 128 litters, three a litter.
-pub struct Table {
-    pub numbers: [u32; 384],
-}
-
-fn empty() -> Table
-    ensures { λ r. ⌜ r ≡ noRows ⌝ }
-{
-    Table { numbers: [0; 384] }
-}
-
-// A litter past the last row is left out.
-fn set_row(t: Table, i: usize, l: Litter) -> Table
-    ensures { λ r. ⌜ r ≡ withRow t i l ⌝ }
-{
-    let mut r = t;
-    if i < 128 {
-        let k = 3 * i;
-        r.numbers[k] = l.successes;
-        r.numbers[k + 1] = l.total;
-        r.numbers[k + 2] = l.group;
-    }
-    r
-}
-
-pub fn to_table(litters: &[Litter]) -> Table
-    ensures { λ r. ⌜ (r ≡ withRows (now (litters .entry)) 0 noRows) × (now (litters .exit) ≡ now (litters .entry)) ⌝ }
-{
-    let mut t = empty();
-    let mut i = 0;
-    while i < litters.len() {
-        t = set_row(t, i, litters[i]);
-        i += 1;
-    }
-    t
-}
-
-// How many of n lent numbers, three a litter, go to the core. More than 128 litters are refused as none are, so none go.
-pub fn handed_on(n: usize) -> usize
-    ensures { λ k. ⌜ (k ≡ handedOn n) × (k ≤ n) ⌝ }
-{
-    if n / 3 <= 128 {
-        return n;
-    }
-    0
-}
-
-// How many of the table's numbers stand for n litters. More than 128 are refused as none are, so none are handed on.
-pub fn room(n: usize) -> usize
-    ensures { λ k. ⌜ (k ≡ roomOf n) × (k ≤ 384) ⌝ }
-{
-    if 128 < n {
-        return 0;
-    }
-    3 * n
 }

@@ -10,8 +10,9 @@ use Rattle.posterior.specs.declared.side.Side.the-variants.{Left, Right}
 use Rattle.posterior.specs.Side.{firstOf, risesOf, flatOf}
 use Rattle.posterior.specs.Integrand.{Eval}
 use Rattle.mode.specs.declared.Guess.{Guess}
-use Rattle.mode.specs.Bracket.{Ends, doubled, ends, checkEnds}
-use Rattle.mode.specs.Mode.{allowance, steps-tolerance, mode-tolerance, narrowedOf, startOf, passes, confirmed, peak}
+use Rattle.posterior.specs.Range.{Ends}
+use Rattle.mode.specs.Bracket.{doubled, ends, checkEnds}
+use Rattle.mode.specs.Mode.{allowedOf, steps-tolerance, mode-tolerance, narrowedOf, startOf, passes, confirmed, peak}
 
 module _ (here : Float → Eval) where
   -- n doublings make at most n evaluations
@@ -34,12 +35,12 @@ module _ (here : Float → Eval) where
   pub passes-at-most : (n : ℕ) (g : Guess) → AtMost n (passes here n g)
   unfolding passes _>>=_
   passes-at-most zero g = rets
-  passes-at-most (suc n) g = asks (λ v. either (le (absOf (v .slope)) (allowance steps-tolerance (g .at))) rets (passes-at-most n (narrowedOf g (v .slope) (v .curvature))))
+  passes-at-most (suc n) g = asks (λ v. either (le (absOf (v .slope)) (allowedOf steps-tolerance (g .at))) rets (passes-at-most n (narrowedOf g (v .slope) (v .curvature))))
 
   -- the mode is confirmed by 1
   pub confirmed-at-most : (z : Float) → AtMost 1 (confirmed here z)
   unfolding confirmed _>>=_
-  confirmed-at-most z = asks (λ v. either (lt (allowance mode-tolerance z) (absOf (v .slope))) stops (either (le (v .curvature) zero·) stops rets))
+  confirmed-at-most z = asks (λ v. either (lt (allowedOf mode-tolerance z) (absOf (v .slope))) stops (either (le (v .curvature) zero·) stops rets))
 
   -- the mode inside its bracket: at most 101
   pub peak-at-most : (lo hi : Float) → AtMost 101 (peak here lo hi)

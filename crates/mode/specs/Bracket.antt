@@ -3,21 +3,18 @@ use mathlib.Core.Bool.{cond}
 use Prim.Native.Nat.{ℕ, zero, suc}
 use lib.Ieee.{Float}
 use Rattle.num.specs.F64.{_⊗_, zero·, two·}
-use Rattle.work.specs.declared.Ending.{Ending}
 use Rattle.work.specs.Ended.{domain}
 use Rattle.work.specs.Work.{Work, ret, stop, eval, _>>=_, told}
 use Rattle.posterior.specs.declared.side.Side.{Side}
 use Rattle.posterior.specs.declared.side.Side.the-variants.{Left, Right}
 use Rattle.posterior.specs.declared.integrand.Posterior.{Posterior}
 use Rattle.posterior.specs.declared.integrand.Point.{Point}
-use Rattle.mode.specs.declared.bracket.Bound.{Bound}
-use Rattle.mode.specs.declared.bracket.Span.{Span}
+use Rattle.posterior.specs.declared.number.Number.{Number}
+use Rattle.posterior.specs.declared.range.Range.{Range}
 use Rattle.posterior.specs.Side.{firstOf, risesOf, flatOf}
-use Rattle.posterior.specs.Integrand.{Eval, here, counted, from}
-
-pub record Ends : Type 0 where
-  pub lo : Float
-  pub hi : Float
+use Rattle.posterior.specs.Integrand.{Eval, here, from}
+use Rattle.posterior.specs.Number.{toNumber}
+use Rattle.posterior.specs.Range.{Ends, noEnds, toRange}
 
 -- at most n doublings more, from z
 unfoldable pub doubled : (Float → Eval) → Side → ℕ → Float → Work Eval Point Float
@@ -30,35 +27,26 @@ unfoldable pub ends : (Float → Eval) → Work Eval Point Ends
 ends here = do
   lo ← doubled here Left 16 (firstOf Left)
   hi ← doubled here Right 16 (firstOf Right)
-  ret (record { lo = lo; hi = hi })
+  ret (record { left = lo; right = hi })
 
--- reason 1: the density does not rise from an end; the second is asked only where the first is in order
+-- reason 1, mode not bracketed: the density does not rise from an end; the second is asked only where the first is in order
 unfoldable pub checkEnds : (Float → Eval) → Ends → Work Eval Point Ends
 checkEnds here e = do
-  v ← eval (here (e .lo))
+  v ← eval (here (e .left))
   cond (flatOf Left (v .slope)) (stop (domain 1)) (do
-    u ← eval (here (e .hi))
+    u ← eval (here (e .right))
     cond (flatOf Right (u .slope)) (stop (domain 1)) (ret e))
 
 -- ---- the code's answers
 
-abbrev pub toBound : Posterior → Ending → ℕ → Float → Bound
-toBound p e n z = record { end = e; p = counted p n; z = z }
+unfoldable pub boundFrom : Posterior → Side → ℕ → Float → Number
+boundFrom p side n z = told (toNumber p) zero· (from p (doubled (here p) side n z))
 
-unfoldable pub boundFrom : Posterior → Side → ℕ → Float → Bound
-boundFrom p side n z = told (toBound p) zero· (from p (doubled (here p) side n z))
+unfoldable pub doubleOf : Posterior → Side → Number
+doubleOf p side = boundFrom p side 16 (firstOf side)
 
-unfoldable pub boundOf : Posterior → Side → Bound
-boundOf p side = boundFrom p side 16 (firstOf side)
+unfoldable pub bracketOf : Posterior → Range
+bracketOf p = told (toRange p) noEnds (from p (ends (here p)))
 
-abbrev pub noEnds : Ends
-noEnds = record { lo = zero·; hi = zero· }
-
-abbrev pub toSpan : Posterior → Ending → ℕ → Ends → Span
-toSpan p e n b = record { end = e; p = counted p n; lo = b .lo; hi = b .hi }
-
-unfoldable pub endsOf : Posterior → Span
-endsOf p = told (toSpan p) noEnds (from p (ends (here p)))
-
-unfoldable pub checkedOf : Posterior → Float → Float → Span
-checkedOf p lo hi = told (toSpan p) noEnds (from p (checkEnds (here p) (record { lo = lo; hi = hi })))
+unfoldable pub checkOf : Posterior → Float → Float → Range
+checkOf p lo hi = told (toRange p) noEnds (from p (checkEnds (here p) (record { left = lo; right = hi })))

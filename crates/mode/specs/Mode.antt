@@ -9,14 +9,15 @@ use Rattle.work.specs.Ended.{domain}
 use Rattle.work.specs.Work.{Work, ret, stop, eval, _>>=_, told}
 use Rattle.posterior.specs.declared.integrand.Posterior.{Posterior}
 use Rattle.posterior.specs.declared.integrand.Point.{Point}
+use Rattle.posterior.specs.declared.number.Number.{Number}
 use Rattle.mode.specs.declared.Guess.{Guess}
-use Rattle.mode.specs.declared.Passed.{Passed}
 use Rattle.mode.specs.declared.Mode.{Mode}
 use Rattle.posterior.specs.Integrand.{Eval, here, counted, from}
+use Rattle.posterior.specs.Number.{toNumber}
 
 -- a slope at z counts as zero up to c times 1 + |z|
-abbrev pub allowance : Float → Float → Float
-allowance c z = c ⊗ (one· ⊕ absOf z)
+abbrev pub allowedOf : Float → Float → Float
+allowedOf c z = c ⊗ (one· ⊕ absOf z)
 
 -- 1e-12 ends the steps, 1e-9 is asked of the mode
 abbrev pub steps-tolerance : Float
@@ -39,18 +40,18 @@ unfoldable pub passes : (Float → Eval) → ℕ → Guess → Work Eval Point F
 passes here zero g = ret (g .at)
 passes here (suc n) g = do
   v ← eval (here (g .at))
-  cond (le (absOf (v .slope)) (allowance steps-tolerance (g .at))) (ret (g .at)) (passes here n (narrowedOf g (v .slope) (v .curvature)))
+  cond (le (absOf (v .slope)) (allowedOf steps-tolerance (g .at))) (ret (g .at)) (passes here n (narrowedOf g (v .slope) (v .curvature)))
 
 pub record Peak : Type 0 where
   pub at : Float
   pub log : Float
   pub curvature : Float
 
--- reason 2: the slope there is not small, or the curvature not above zero
+-- reason 2, mode not converged: the slope there is not small, or the curvature not above zero
 unfoldable pub confirmed : (Float → Eval) → Float → Work Eval Point Peak
 confirmed here z = do
   v ← eval (here z)
-  cond (lt (allowance mode-tolerance z) (absOf (v .slope))) (stop (domain 2))
+  cond (lt (allowedOf mode-tolerance z) (absOf (v .slope))) (stop (domain 2))
       (cond (le (v .curvature) zero·) (stop (domain 2)) (ret (record { at = z; log = v .log; curvature = v .curvature })))
 
 abbrev pub startOf : Float → Float → Guess
@@ -63,23 +64,26 @@ peak here lo hi = do
 
 -- ---- the code's answers
 
-abbrev pub toPassed : Posterior → Ending → ℕ → Float → Passed
-toPassed p e n z = record { end = e; p = counted p n; at = z }
+unfoldable pub passedFrom : Posterior → ℕ → Guess → Number
+passedFrom p n g = told (toNumber p) zero· (from p (passes (here p) n g))
 
-unfoldable pub passedFrom : Posterior → ℕ → Guess → Passed
-passedFrom p n g = told (toPassed p) zero· (from p (passes (here p) n g))
-
-unfoldable pub passedOf : Posterior → Guess → Passed
-passedOf p g = passedFrom p 100 g
+unfoldable pub stepsOf : Posterior → Guess → Number
+stepsOf p g = passedFrom p 100 g
 
 abbrev pub noPeak : Peak
 noPeak = record { at = zero·; log = zero·; curvature = zero· }
 
+abbrev ofPeak : Ending → Posterior → Peak → Mode
+ofPeak e p m = record { end = e; p = p; at = m .at; log = m .log; curvature = m .curvature }
+
 abbrev pub toMode : Posterior → Ending → ℕ → Peak → Mode
-toMode p e n m = record { end = e; p = counted p n; at = m .at; log = m .log; curvature = m .curvature }
+toMode p e n m = ofPeak e (counted p n) m
 
-unfoldable pub confirmedOf : Posterior → Float → Mode
-confirmedOf p z = told (toMode p) noPeak (from p (confirmed (here p) z))
+abbrev pub nothingOf : Ending → Posterior → Mode
+nothingOf e p = ofPeak e p noPeak
 
-unfoldable pub modeOf : Posterior → Float → Float → Mode
-modeOf p lo hi = told (toMode p) noPeak (from p (peak (here p) lo hi))
+unfoldable pub confirmOf : Posterior → Float → Mode
+confirmOf p z = told (toMode p) noPeak (from p (confirmed (here p) z))
+
+unfoldable pub findOf : Posterior → Float → Float → Mode
+findOf p lo hi = told (toMode p) noPeak (from p (peak (here p) lo hi))

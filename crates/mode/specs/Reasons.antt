@@ -12,8 +12,9 @@ use Rattle.posterior.specs.declared.side.Side.the-variants.{Left, Right}
 use Rattle.posterior.specs.Side.{firstOf, risesOf, flatOf}
 use Rattle.posterior.specs.Integrand.{Eval}
 use Rattle.mode.specs.declared.Guess.{Guess}
-use Rattle.mode.specs.Bracket.{Ends, doubled, ends, checkEnds}
-use Rattle.mode.specs.Mode.{allowance, steps-tolerance, mode-tolerance, narrowedOf, startOf, passes, confirmed, peak}
+use Rattle.posterior.specs.Range.{Ends}
+use Rattle.mode.specs.Bracket.{doubled, ends, checkEnds}
+use Rattle.mode.specs.Mode.{allowedOf, steps-tolerance, mode-tolerance, narrowedOf, startOf, passes, confirmed, peak}
 
 module _ (here : Float → Eval) where
   doubled-reasons : (side : Side) (n : ℕ) (z : Float) → Stops (Reasoned 5) (doubled here side n z)
@@ -33,12 +34,12 @@ module _ (here : Float → Eval) where
   passes-reasons : (n : ℕ) (g : Guess) → Stops (Reasoned 5) (passes here n g)
   unfolding passes _>>=_
   passes-reasons zero g = answers
-  passes-reasons (suc n) g = hears (λ v. chosen (le (absOf (v .slope)) (allowance steps-tolerance (g .at))) answers (passes-reasons n (narrowedOf g (v .slope) (v .curvature))))
+  passes-reasons (suc n) g = hears (λ v. chosen (le (absOf (v .slope)) (allowedOf steps-tolerance (g .at))) answers (passes-reasons n (narrowedOf g (v .slope) (v .curvature))))
 
   confirmed-reasons : (z : Float) → Stops (Reasoned 5) (confirmed here z)
   unfolding confirmed _>>=_
   confirmed-reasons z =
-      hears (λ v. chosen (lt (allowance mode-tolerance z) (absOf (v .slope))) (refuses {r = domain 2} (lit≤ tt, lit≤ tt)) (chosen (le (v .curvature) zero·) (refuses {r = domain 2} (lit≤ tt, lit≤ tt)) answers))
+      hears (λ v. chosen (lt (allowedOf mode-tolerance z) (absOf (v .slope))) (refuses {r = domain 2} (lit≤ tt, lit≤ tt)) (chosen (le (v .curvature) zero·) (refuses {r = domain 2} (lit≤ tt, lit≤ tt)) answers))
 
   pub peak-reasons : (lo hi : Float) → Stops (Reasoned 5) (peak here lo hi)
   unfolding peak

@@ -1,26 +1,15 @@
 // The mode's bracket: each end doubled outward until the density rises from there, at most sixteen times, then both ends checked.
 use posterior::integrand::Posterior;
+use posterior::number::Number;
+use posterior::range::Range;
 use posterior::side::Side;
 use work::Ending;
 ghost use mathlib.Core.Path.{_≡_};
-ghost use Rattle.mode.specs.Bracket.{boundOf, endsOf, checkedOf};
+ghost use Rattle.mode.specs.Bracket.{doubleOf, bracketOf, checkOf};
 
 // One end.
-pub struct Bound {
-    pub end: Ending,
-    pub p: Posterior,
-    pub z: f64,
-}
-
-pub struct Span {
-    pub end: Ending,
-    pub p: Posterior,
-    pub lo: f64,
-    pub hi: f64,
-}
-
-fn double(p: Posterior, side: Side) -> Bound
-    ensures { λ r. ⌜ r ≡ boundOf p side ⌝ }
+fn double(p: Posterior, side: Side) -> Number
+    ensures { λ r. ⌜ r ≡ doubleOf p side ⌝ }
 {
     let mut q = p;
     let mut z = posterior::side::first(side);
@@ -29,102 +18,72 @@ fn double(p: Posterior, side: Side) -> Bound
         let end = a.end;
         q = a.p;
         if work::refused(end) {
-            return Bound { end, p: q, z: 0.0 };
+            return posterior::number::nothing(end, q);
         }
         if posterior::side::rises(side, a.v.slope) {
-            return Bound {
+            return Number {
                 end: Ending::Answered,
                 p: q,
-                z,
+                value: z,
             };
         }
         z = z * 2.0;
     }
-    Bound {
+    Number {
         end: Ending::Answered,
         p: q,
-        z,
+        value: z,
     }
 }
 
-pub fn bracket(p: Posterior) -> Span
-    ensures { λ r. ⌜ r ≡ endsOf p ⌝ }
+pub fn bracket(p: Posterior) -> Range
+    ensures { λ r. ⌜ r ≡ bracketOf p ⌝ }
 {
     let a = double(p, Side::Left);
     let end = a.end;
     let q = a.p;
     if work::refused(end) {
-        return Span {
-            end,
-            p: q,
-            lo: 0.0,
-            hi: 0.0,
-        };
+        return posterior::range::nothing(end, q);
     }
     let b = double(q, Side::Right);
     let end = b.end;
     let q = b.p;
     if work::refused(end) {
-        return Span {
-            end,
-            p: q,
-            lo: 0.0,
-            hi: 0.0,
-        };
+        return posterior::range::nothing(end, q);
     }
-    Span {
+    Range {
         end: Ending::Answered,
         p: q,
-        lo: a.z,
-        hi: b.z,
+        left: a.value,
+        right: b.value,
     }
 }
 
-pub fn check(p: Posterior, lo: f64, hi: f64) -> Span
-    ensures { λ r. ⌜ r ≡ checkedOf p lo hi ⌝ }
+pub fn check(p: Posterior, lo: f64, hi: f64) -> Range
+    ensures { λ r. ⌜ r ≡ checkOf p lo hi ⌝ }
 {
     let a = posterior::integrand::evaluate(p, lo);
     let end = a.end;
     let q = a.p;
     if work::refused(end) {
-        return Span {
-            end,
-            p: q,
-            lo: 0.0,
-            hi: 0.0,
-        };
+        return posterior::range::nothing(end, q);
     }
     if posterior::side::flat(Side::Left, a.v.slope) {
-        return Span {
-            end: Ending::Domain(1),
-            p: q,
-            lo: 0.0,
-            hi: 0.0,
-        };
+        return posterior::range::nothing(Ending::Domain(1), q);
     }
     let b = posterior::integrand::evaluate(q, hi);
     let end = b.end;
     let q = b.p;
     if work::refused(end) {
-        return Span {
-            end,
-            p: q,
-            lo: 0.0,
-            hi: 0.0,
-        };
+        return posterior::range::nothing(end, q);
     }
     if posterior::side::flat(Side::Right, b.v.slope) {
-        return Span {
-            end: Ending::Domain(1),
-            p: q,
-            lo: 0.0,
-            hi: 0.0,
-        };
+        return posterior::range::nothing(Ending::Domain(1), q);
     }
-    Span {
+    Range {
         end: Ending::Answered,
         p: q,
-        lo,
-        hi,
+        left: lo,
+        right: hi,
     }
 }

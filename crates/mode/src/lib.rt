@@ -2,20 +2,15 @@
 pub mod bracket;
 
 use posterior::integrand::Posterior;
+use posterior::number::Number;
 use work::Ending;
 ghost use mathlib.Core.Path.{_≡_};
-ghost use Rattle.mode.specs.Mode.{allowance, narrowedOf, passedOf, confirmedOf, modeOf};
+ghost use Rattle.mode.specs.Mode.{nothingOf, allowedOf, narrowedOf, stepsOf, confirmOf, findOf};
 
 // A bracket and a guess inside it.
 pub struct Guess {
     pub lo: f64,
     pub hi: f64,
-    pub at: f64,
-}
-
-pub struct Passed {
-    pub end: Ending,
-    pub p: Posterior,
     pub at: f64,
 }
 
@@ -27,9 +22,21 @@ pub struct Mode {
     pub curvature: f64,
 }
 
+pub fn nothing(end: Ending, p: Posterior) -> Mode
+    ensures { λ r. ⌜ r ≡ nothingOf end p ⌝ }
+{
+    Mode {
+        end,
+        p,
+        at: 0.0,
+        log: 0.0,
+        curvature: 0.0,
+    }
+}
+
 // A slope at z counts as zero up to c times 1 + |z|.
 fn allowed(c: f64, z: f64) -> f64
-    ensures { λ r. ⌜ r ≡ allowance c z ⌝ }
+    ensures { λ r. ⌜ r ≡ allowedOf c z ⌝ }
 {
     c * (1.0 + num::abs(z))
 }
@@ -46,8 +53,8 @@ fn narrowed(g: Guess, d: f64, k: f64) -> Guess
     Guess { lo, hi, at }
 }
 
-fn steps(p: Posterior, start: Guess) -> Passed
-    ensures { λ r. ⌜ r ≡ passedOf p start ⌝ }
+fn steps(p: Posterior, start: Guess) -> Number
+    ensures { λ r. ⌜ r ≡ stepsOf p start ⌝ }
 {
     let mut q = p;
     let mut g = start;
@@ -56,57 +63,39 @@ fn steps(p: Posterior, start: Guess) -> Passed
         let end = a.end;
         q = a.p;
         if work::refused(end) {
-            return Passed { end, p: q, at: 0.0 };
+            return posterior::number::nothing(end, q);
         }
         if num::abs(a.v.slope) <= allowed(1e-12, g.at) {
-            return Passed {
+            return Number {
                 end: Ending::Answered,
                 p: q,
-                at: g.at,
+                value: g.at,
             };
         }
         let n = narrowed(g, a.v.slope, a.v.curvature);
         g = n;
     }
-    Passed {
+    Number {
         end: Ending::Answered,
         p: q,
-        at: g.at,
+        value: g.at,
     }
 }
 
 fn confirm(p: Posterior, z: f64) -> Mode
-    ensures { λ r. ⌜ r ≡ confirmedOf p z ⌝ }
+    ensures { λ r. ⌜ r ≡ confirmOf p z ⌝ }
 {
     let a = posterior::lent::evaluate_lent(p, z);
     let end = a.end;
     let q = a.p;
     if work::refused(end) {
-        return Mode {
-            end,
-            p: q,
-            at: 0.0,
-            log: 0.0,
-            curvature: 0.0,
-        };
+        return nothing(end, q);
     }
     if num::abs(a.v.slope) > allowed(1e-9, z) {
-        return Mode {
-            end: Ending::Domain(2),
-            p: q,
-            at: 0.0,
-            log: 0.0,
-            curvature: 0.0,
-        };
+        return nothing(Ending::Domain(2), q);
     }
     if a.v.curvature <= 0.0 {
-        return Mode {
-            end: Ending::Domain(2),
-            p: q,
-            at: 0.0,
-            log: 0.0,
-            curvature: 0.0,
-        };
+        return nothing(Ending::Domain(2), q);
     }
     Mode {
         end: Ending::Answered,
@@ -118,7 +107,7 @@ fn confirm(p: Posterior, z: f64) -> Mode
 }
 
 pub fn find(p: Posterior, lo: f64, hi: f64) -> Mode
-    ensures { λ r. ⌜ r ≡ modeOf p lo hi ⌝ }
+    ensures { λ r. ⌜ r ≡ findOf p lo hi ⌝ }
 {
     let start = Guess {
         lo,
@@ -129,13 +118,7 @@ pub fn find(p: Posterior, lo: f64, hi: f64) -> Mode
     let end = s.end;
     let q = s.p;
     if work::refused(end) {
-        return Mode {
-            end,
-            p: q,
-            at: 0.0,
-            log: 0.0,
-            curvature: 0.0,
-        };
+        return nothing(end, q);
     }
-    confirm(q, s.at)
+    confirm(q, s.value)
 }

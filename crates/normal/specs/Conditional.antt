@@ -9,8 +9,8 @@ use Rattle.normal.specs.declared.moments.ConditionalLog.{ConditionalLog}
 use Rattle.normal.specs.Normal.{normalOf}
 
 -- the first four derivatives of the logarithm, from the ratio r at x
-abbrev pub millsOf : Float → Float → List Float
-millsOf x r =
+abbrev pub millsDerivativesOf : Float → Float → List Float
+millsDerivativesOf x r =
     let first = neg r ⊗ (x ⊕ r) in
     let a = (x ⊕ r) ⊗ (x ⊕ two· ⊗ r) ⊖ one· in
     let second = r ⊗ a in
@@ -33,4 +33,4 @@ unfoldable pub conditionalOf : Float → ℕ → ℕ → ConditionalLog
 conditionalOf eta successes total =
     let low = normalOf eta in
     let high = normalOf (neg eta) in
-    combinedOf (whole successes) (whole (total - successes)) (low .log) (high .log) (millsOf eta (low .mills)) (millsOf (neg eta) (high .mills))
+    combinedOf (whole successes) (whole (total - successes)) (low .log) (high .log) (millsDerivativesOf eta (low .mills)) (millsDerivativesOf (neg eta) (high .mills))

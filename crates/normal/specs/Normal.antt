@@ -18,8 +18,8 @@ abbrev pub sqrt-two : Float
 sqrt-two = bits 0x3ff6_a09e_667f_3bcd
 
 -- the logarithm of the density
-abbrev pub logPhi : Float → Float
-logPhi x = neg half· ⊗ x ⊗ x ⊖ half· ⊗ log-two-pi
+abbrev pub logPhiOf : Float → Float
+logPhiOf x = neg half· ⊗ x ⊗ x ⊖ half· ⊗ log-two-pi
 
 -- the terms k down to 1 of the continued fraction, inside out, from f
 unfoldable pub fractionFrom : Float → ℕ → Float → Float
@@ -39,13 +39,13 @@ unfoldable pub normalTail : Float → LogMills
 normalTail x =
     let t = neg x in
     let mills = t ⊕ fractionOf t in
-    record { log = logPhi x ⊖ logOf mills; mills = mills }
+    record { log = logPhiOf x ⊖ logOf mills; mills = mills }
 
 unfoldable pub normalCentre : Float → LogMills
 normalCentre x =
     let cdf = half· ⊗ erfcOf (neg x ⊘ sqrt-two) in
     let log-cdf = logOf cdf in
-    record { log = log-cdf; mills = expOf (logPhi x ⊖ log-cdf) }
+    record { log = log-cdf; mills = expOf (logPhiOf x ⊖ log-cdf) }
 
 unfoldable pub normalOf : Float → LogMills
 normalOf x = cond (lt x (neg eight·)) (normalTail x) (normalCentre x)

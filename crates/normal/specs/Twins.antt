@@ -7,8 +7,8 @@ use Rattle.normal.specs.declared.mills.LogMills.{LogMills}
 use Rattle.normal.specs.declared.twins.Twins.{Twins}
 use Rattle.normal.specs.Normal.{normalCentre}
 
-abbrev pub byCdf : Float → Float → LogMills
-byCdf phi cdf = let l = logOf cdf in record { log = l; mills = expOf (phi ⊖ l) }
+abbrev pub byCdfOf : Float → Float → LogMills
+byCdfOf phi cdf = let l = logOf cdf in record { log = l; mills = expOf (phi ⊖ l) }
 
 unfoldable pub centresOf : Float → Twins
 centresOf x = record { low = normalCentre x; high = normalCentre (neg x) }

@@ -1,6 +1,6 @@
 // The logarithm of the normal distribution at x, and the ratio of density to distribution there.
 ghost use mathlib.Core.Path.{_≡_};
-ghost use Rattle.normal.specs.Normal.{fractionOf, logPhi, normalOf, normalTail, normalCentre};
+ghost use Rattle.normal.specs.Normal.{fractionOf, logPhiOf, normalOf, normalTail, normalCentre};
 
 const LOG_TWO_PI: f64 = 1.8378770664093453;
 
@@ -12,7 +12,7 @@ pub struct LogMills {
 }
 
 pub fn log_phi(x: f64) -> f64
-    ensures { λ r. ⌜ r ≡ logPhi x ⌝ }
+    ensures { λ r. ⌜ r ≡ logPhiOf x ⌝ }
 {
     -0.5 * x * x - 0.5 * LOG_TWO_PI
 }

@@ -2,7 +2,7 @@
 ghost use mathlib.Core.Path.{_≡_};
 ghost use Prim.Native.Nat.{_-_};
 ghost use Rattle.num.specs.Helpers.{powiOf};
-ghost use Rattle.normal.specs.Conditional.{millsOf, combinedOf, conditionalOf};
+ghost use Rattle.normal.specs.Conditional.{millsDerivativesOf, combinedOf, conditionalOf};
 
 pub struct ConditionalLog {
     pub log: f64,
@@ -13,7 +13,7 @@ pub struct ConditionalLog {
 
 // The first four derivatives of the logarithm, from the ratio r at x.
 pub fn mills_derivatives(x: f64, r: f64) -> [f64; 4]
-    ensures { λ o. ⌜ o ≡ millsOf x r ⌝ }
+    ensures { λ o. ⌜ o ≡ millsDerivativesOf x r ⌝ }
 {
     let first = -r * (x + r);
     let a = (x + r) * (x + 2.0 * r) - 1.0;

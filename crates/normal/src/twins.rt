@@ -4,7 +4,7 @@ ghost use mathlib.Core.Path.{_≡_};
 ghost use lib.Ieee.{neg};
 ghost use Rattle.elementary.specs.Erfc.{erfcOf};
 ghost use Rattle.normal.specs.Normal.{normalOf};
-ghost use Rattle.normal.specs.Twins.{byCdf, centresOf};
+ghost use Rattle.normal.specs.Twins.{byCdfOf, centresOf};
 
 const SQRT_2: f64 = 1.4142135623730951;
 
@@ -66,7 +66,7 @@ pub fn erfc_at_both(x: f64) -> Erfcs
 }
 
 fn by_cdf(phi: f64, cdf: f64) -> LogMills
-    ensures { λ r. ⌜ r ≡ byCdf phi cdf ⌝ }
+    ensures { λ r. ⌜ r ≡ byCdfOf phi cdf ⌝ }
 {
     let log = elementary::log::log(cdf);
     LogMills {

@@ -4,3 +4,4 @@ pub mod Choose
 pub mod Left
 pub mod Numbers
 pub mod Leading
+pub mod Compare

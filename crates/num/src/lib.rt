@@ -4,7 +4,7 @@ ghost use mathlib.Core.Bool.{_&&_, _||_, cond};
 ghost use mathlib.Core.List.{[], _∷_};
 ghost use lib.Ieee.{nan};
 ghost use Rattle.num.specs.F64.{infinity·};
-ghost use Rattle.num.specs.Helpers.{absOf, isFinite, maxOf, minOf, clampOf, powiOf, sumOf};
+ghost use Rattle.num.specs.Helpers.{absOf, isFiniteOf, maxOf, minOf, clampOf, powiOf, sumOf};
 
 // 0 - x is +0 at both zeros, and a NaN fails the test.
 pub fn abs(x: f64) -> f64
@@ -14,7 +14,7 @@ pub fn abs(x: f64) -> f64
 }
 
 pub fn is_finite(x: f64) -> bool
-    ensures { λ r. ⌜ r ≡ isFinite x ⌝ }
+    ensures { λ r. ⌜ r ≡ isFiniteOf x ⌝ }
 {
     let top = f64::from_bits(0x7ff0_0000_0000_0000);
     if x < top { -top < x } else { false }

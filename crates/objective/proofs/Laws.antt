@@ -16,17 +16,19 @@ use Rattle.work.specs.Through.{Driven, heard, driven}
 use Rattle.legendre.specs.declared.Pair.{Pair}
 use Rattle.posterior.specs.Integrand.{at}
 use Rattle.row.specs.declared.share.Row.{Row}
-use Rattle.row.specs.Share.{Share, noShare, rowOf}
+use Rattle.row.specs.Share.{Share, noShare, rowObjectiveOf}
 use Rattle.value.specs.declared.Totals.{Totals}
 use Rattle.objective.specs.declared.sum.Objective.{Objective}
-use Rattle.objective.specs.Litters.{groupAt, validLitters, validPoint}
+use Rattle.litters.specs.Litters.{groupAt}
+use Rattle.litters.specs.Valid.{validLittersOf}
+use Rattle.objective.specs.Point.{validPointOf}
 use Rattle.objective.specs.Totals.{indexOf, accumulatedOf, finiteTotals}
 use Rattle.objective.specs.declared.sum.Named.{Named}
-use Rattle.objective.specs.Objective.{shareAt, rows, rowAt, rowsFrom, objective, limitedOf, refusalOf, endedOf}
-use Rattle.objective.specs.Named.{Litter, numbered, askedRows, asked, litterFrom, litterOf, namedFrom, summedOf, namedOf}
+use Rattle.objective.specs.Objective.{shareAt, rows, rowAt, rowsFrom, objective, limitedObjectiveOf, refusalOf, endedOf}
+use Rattle.objective.specs.Named.{Litter, numbered, askedRows, asked, litterFrom, litterOf, namedFrom, summedOf, namedObjectiveOf}
 
 row-within : (rule : List Pair) (x : List Float) (ls : List ℕ) (i limit : ℕ) → rowAt rule x ls i limit .used .0 ≤ limit
-unfolding rowOf
+unfolding rowObjectiveOf
 row-within rule x ls i limit = within at limit 0 (shareAt rule x ls i) zero-le
 
 -- the count stays within the limit
@@ -52,7 +54,7 @@ module _ (rule : List Pair) (x : List Float) (ls : List ℕ) (limit used : ℕ) 
   withRow t i r = accumulatedOf t (indexOf (groupAt ls i)) (r .nll) (r .gradient) (r .hessian) (r .refinement)
 
   rows-step : (n i : ℕ) (t : Totals) → rowsFrom rule x ls limit used (suc n) i t ≡ (let r = rowAt rule x ls i (limit - used) in cond (isRefused (r .end)) (refusalOf (r .end) (record { 0 = used + r .used .0 })) (rowsFrom rule x ls limit (used + r .used .0) n (i + 1) (withRow t i r)))
-  unfolding rowsFrom rows rowOf
+  unfolding rowsFrom rows rowObjectiveOf
   rows-step n i t = rw (past noShare, share at (shareAt rule x ls i) limit used)
 
   rows-end : (i : ℕ) (t : Totals) → rowsFrom rule x ls limit used zero i t ≡ endedOf used t
@@ -60,7 +62,7 @@ module _ (rule : List Pair) (x : List Float) (ls : List ℕ) (limit used : ℕ) 
   rows-end i t = rw (branch, gives, gives-up)
 
   litter-step : (n i : ℕ) (t : Totals) → litterFrom rule x ls limit used (suc n) i t ≡ (let r = rowAt rule x ls i (limit - used) in cond (isRefused (r .end)) (i + 1) (litterFrom rule x ls limit (used + r .used .0) n (i + 1) (withRow t i r)))
-  unfolding litterFrom askedRows driven rowOf
+  unfolding litterFrom askedRows driven rowObjectiveOf
   litter-step n i t = rw (share at (shareAt rule x ls i) limit used) (hearing (record { at = x; number = i }) (metered at (limit - used) 0 (shareAt rule x ls i) .ended) _ _)
 
   no-litter : (i : ℕ) (t : Totals) → litterFrom rule x ls limit used zero i t ≡ 0
@@ -86,15 +88,15 @@ module _ (rule : List Pair) (x : List Float) (ls : List ℕ) (limit used : ℕ) 
     rows-done o h u = rw u (rw (left-none n i h, named-end) at v)
 
 module _ (rule : List Pair) (x : List Float) (ls : List ℕ) (limit : QuadratureEvaluations) where
-  pub limited-point : (o : Objective) (t : Bool) → t ≡ validPoint x → t ≡ false → o ≡ refusalOf InvalidInput (record { 0 = 0 }) → named o 0 ≡ namedOf rule x ls limit
-  unfolding namedOf limitedOf objective litterOf asked driven
+  pub limited-point : (o : Objective) (t : Bool) → t ≡ validPointOf x → t ≡ false → o ≡ refusalOf InvalidInput (record { 0 = 0 }) → named o 0 ≡ namedObjectiveOf rule x ls limit
+  unfolding namedObjectiveOf limitedObjectiveOf objective litterOf asked driven
   limited-point o t e f u = rw (branch, ← e, f, gives-up, u)
 
-  module _ (t s : Bool) (e : t ≡ validPoint x) (f : t ≡ true) (g : s ≡ validLitters ls) where
-    pub limited-litters : (o : Objective) → s ≡ false → o ≡ refusalOf InvalidInput (record { 0 = 0 }) → named o 0 ≡ namedOf rule x ls limit
-    unfolding namedOf limitedOf objective litterOf asked driven
+  module _ (t s : Bool) (e : t ≡ validPointOf x) (f : t ≡ true) (g : s ≡ validLittersOf ls) where
+    pub limited-litters : (o : Objective) → s ≡ false → o ≡ refusalOf InvalidInput (record { 0 = 0 }) → named o 0 ≡ namedObjectiveOf rule x ls limit
+    unfolding namedObjectiveOf limitedObjectiveOf objective litterOf asked driven
     limited-litters o h u = rw (branch, ← e, f, ← g, h, gives-up, u)
 
-    pub limited-goes : (r : Named) → s ≡ true → r ≡ summedOf rule x ls (limit .0) → r ≡ namedOf rule x ls limit
-    unfolding namedOf limitedOf objective litterOf asked summedOf namedFrom rowsFrom litterFrom
+    pub limited-goes : (r : Named) → s ≡ true → r ≡ summedOf rule x ls (limit .0) → r ≡ namedObjectiveOf rule x ls limit
+    unfolding namedObjectiveOf limitedObjectiveOf objective litterOf asked summedOf namedFrom rowsFrom litterFrom
     limited-goes r h u = rw (branch, ← e, f, ← g, h) u

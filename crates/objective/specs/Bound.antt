@@ -1,16 +1,15 @@
 -- How many evaluations an objective makes at most: 32,933 a litter, so 4,215,424 for 128. The source's cap of 8,388,608 never binds, and the objective
 -- called alone never ends in WorkBudget.
 use mathlib.Core.Path.{_≡_, refl, ap, _∙_}
-use mathlib.Core.Bool.{Bool, true, false, _&&_}
+use mathlib.Core.Bool.{true}
 use mathlib.Core.List.{List}
-use Prim.Native.Nat.{ℕ, zero, suc, _+_, _*_, _%_, _≤_, min, zero-le}
+use Prim.Native.Nat.{ℕ, zero, suc, _+_, _*_, _≤_, min, zero-le}
 use native.Mathlib.Nat.{suc-mul, add-comm, sub-zero, zero-add}
 use native.Mathlib.Omega.{arith}
-use borrow.Author.Tests.{leb-true}
-use lib.Dec.{leb, eqb, lit≤}
+use lib.Dec.{lit≤}
 use lib.ListN.{length}
 use lib.Ieee.{Float}
-use Rattle.finite.specs.Finite.{and-first, and-second}
+use Rattle.finite.specs.Finite.{and-second}
 use Rattle.work.specs.declared.QuadratureEvaluations.{QuadratureEvaluations}
 use Rattle.work.specs.Work.{run, listed, listedL, told}
 use Rattle.work.specs.AtMost.{AtMost, rets, stops, either, both, more, at-most-listed}
@@ -21,10 +20,12 @@ use Rattle.legendre.specs.Legendre.{legendreOf}
 use Rattle.posterior.specs.Integrand.{at}
 use Rattle.row.specs.Bound.{share-at-most}
 use Rattle.value.specs.declared.Totals.{Totals}
-use Rattle.objective.specs.Litters.{countOf, validLitters, validPoint}
+use Rattle.litters.specs.Litters.{countOf}
+use Rattle.litters.specs.Checks.{at-most-128}
+use Rattle.objective.specs.Point.{validPointOf}
 use Rattle.value.specs.Totals.{noTotals}
 use Rattle.objective.specs.Totals.{finiteTotals}
-use Rattle.objective.specs.Objective.{rows, admits, objective, toObjective, limitedOf, objectiveOf}
+use Rattle.objective.specs.Objective.{rows, admits, objective, toObjective, limitedObjectiveOf, objectiveOf}
 
 module _ (rule : List Pair) (x : List Float) (ls : List ℕ) where
   pub rows-at-most : (n i : ℕ) (t : Totals) → AtMost (n * 32933) (rows rule x ls n i t)
@@ -32,13 +33,8 @@ module _ (rule : List Pair) (x : List Float) (ls : List ℕ) where
   rows-at-most zero i t = either (finiteTotals t) rets stops
   rows-at-most (suc n) i t = rw (suc-mul n 32933, add-comm (n * 32933) 32933) (both (n * 32933) (share-at-most _ _ _ rule _ _) (λ s. rows-at-most n (i + 1) _))
 
-  -- at most 128 litters where the litters are valid
-  few : validLitters ls ≡ true → countOf ls ≤ 128
-  unfolding validLitters
-  few h = leb-true (countOf ls) 128 (and-first _ _ (and-second (leb 1 (countOf ls)) _ (and-second (eqb (length ls % 3) 0) _ h)))
-
   bounded : admits x ls ≡ true → countOf ls * 32933 ≤ 4215424
-  bounded t = let f = few (and-second (validPoint x) _ t) in omega arith
+  bounded t = let f = at-most-128 ls (and-second (validPointOf x) _ t) in omega arith
 
   pub objective-at-most : AtMost 4215424 (objective rule x ls)
   unfolding objective
@@ -49,22 +45,22 @@ module _ (rule : List Pair) (x : List Float) (ls : List ℕ) where
   objective-listed = at-most-listed at objective-at-most
 
   -- the count that the code reports is the length of the list made under its limit
-  pub objective-count : (limit : QuadratureEvaluations) → limitedOf rule x ls limit .used .0 ≡ length (listedL at (limit .0) (objective rule x ls))
-  unfolding limitedOf
+  pub objective-count : (limit : QuadratureEvaluations) → limitedObjectiveOf rule x ls limit .used .0 ≡ length (listedL at (limit .0) (objective rule x ls))
+  unfolding limitedObjectiveOf
   objective-count limit =
       let w = objective rule x ls in
       ap (λ m. m .used) (metered-is at (limit .0) 0 w) ∙ rw (sub-zero (limit .0), zero-add (length (listedL at (limit .0) w)))
 
   -- it is never above the limit, nor above 4,215,424
-  pub objective-within : (limit : QuadratureEvaluations) → limitedOf rule x ls limit .used .0 ≤ min (limit .0) 4215424
-  unfolding limitedOf
+  pub objective-within : (limit : QuadratureEvaluations) → limitedObjectiveOf rule x ls limit .used .0 ≤ min (limit .0) 4215424
+  unfolding limitedObjectiveOf
   objective-within limit =
       let w = objective rule x ls in
       rw (← cap at w (limit .0) 4215424 objective-at-most (lit≤ tt)) (within at (min (limit .0) 4215424) 0 w zero-le)
 
 -- called alone it is the run without a limit
 pub objective-in-full : (x : List Float) (ls : List ℕ) → objectiveOf x ls ≡ told toObjective noTotals (record { ended = run at (objective legendreOf x ls); used = length (listed at (objective legendreOf x ls)) })
-unfolding objectiveOf limitedOf
+unfolding objectiveOf limitedObjectiveOf
 objective-in-full x ls = rw (in-full at (objective legendreOf x ls) 8388608 (objective-at-most legendreOf x ls) (lit≤ tt))
 
 pub alone-within : (x : List Float) (ls : List ℕ) → objectiveOf x ls .used .0 ≤ 4215424

@@ -9,7 +9,8 @@ use Rattle.work.specs.Work.{_>>=_}
 use Rattle.work.specs.Metered.{split}
 use Rattle.legendre.specs.declared.Pair.{Pair}
 use Rattle.value.specs.declared.Totals.{Totals}
-use Rattle.objective.specs.Litters.{groupAt, validPoint}
+use Rattle.litters.specs.Litters.{groupAt}
+use Rattle.objective.specs.Point.{validPointOf}
 use Rattle.objective.specs.Totals.{indexOf, withShare}
 use Rattle.objective.specs.Objective.{shareAt, rows, objective}
 
@@ -28,5 +29,5 @@ module _ (rule : List Pair) (x : List Float) (ls : List ℕ) where
       rw (share-reads i) (ap (λ f. shareAt rule x ls i >>= f) (fun-ext (λ s. rows-read n (i + 1) (withShare t (indexOf (groupAt ls i)) s))))
 
   pub objective-reads : objective rule (pointOf x) ls ≡ objective rule x ls
-  unfolding objective validPoint
+  unfolding objective validPointOf
   objective-reads = rw rows-read

@@ -8,8 +8,8 @@ use lib.ListN.{length, getD, set, length-set}
 use lib.Ieee.{Float, nan, binary64, fits}
 use lib.Ieee.Bits.{ofBits-fits}
 use lib.Ieee.Fits.{nan-fits, add-fits}
-use Rattle.num.specs.Helpers.{isFinite}
-use Rattle.finite.specs.Finite.{allFinite, each-finite, and-first, and-second}
+use Rattle.num.specs.Helpers.{isFiniteOf}
+use Rattle.finite.specs.Finite.{allFiniteOf, each-finite, and-first, and-second}
 use Rattle.work.specs.declared.Ending.the-variants.{Answered}
 use Rattle.work.specs.declared.QuadratureEvaluations.{QuadratureEvaluations}
 use Rattle.work.specs.Given.{Always, holds, refuses, tested, passed, anything, of-answer}
@@ -19,15 +19,15 @@ use Rattle.legendre.specs.Legendre.{legendreOf}
 use Rattle.posterior.specs.Integrand.{at}
 use Rattle.value.specs.declared.Totals.{Totals}
 use Rattle.value.specs.Totals.{noTotals}
-use Rattle.objective.specs.Litters.{countOf, groupAt}
+use Rattle.litters.specs.Litters.{countOf, groupAt}
 use Rattle.objective.specs.Totals.{raised, indexOf, withShare, finiteTotals}
-use Rattle.objective.specs.Objective.{shareAt, rows, admits, objective, limitedOf, objectiveOf}
+use Rattle.objective.specs.Objective.{shareAt, rows, admits, objective, limitedObjectiveOf, objectiveOf}
 
 -- said of a likelihood, a gradient of four entries and a Hessian of sixteen
 pub record Finite (nll : Float) (gradient hessian : List Float) : Type 0 where
-  pub likelihood : isFinite nll ≡ true
-  pub slopes : (i : ℕ) → i < 4 → isFinite (getD gradient i nan) ≡ true
-  pub curvatures : (i : ℕ) → i < 16 → isFinite (getD hessian i nan) ≡ true
+  pub likelihood : isFiniteOf nll ≡ true
+  pub slopes : (i : ℕ) → i < 4 → isFiniteOf (getD gradient i nan) ≡ true
+  pub curvatures : (i : ℕ) → i < 16 → isFiniteOf (getD hessian i nan) ≡ true
 
 -- ---- the entries are as many as these, and the likelihood and each of the gradient's is an f64
 
@@ -84,12 +84,12 @@ pub record Known (t : Totals) : Type 0 where
 known : (t : Totals) → Sized t → finiteTotals t ≡ true → Known t
 unfolding finiteTotals
 known t s h =
-    let rest = and-second (isFinite (t .nll)) _ h in
+    let rest = and-second (isFiniteOf (t .nll)) _ h in
     record {
       finite = record {
-        likelihood = and-first (isFinite (t .nll)) _ h;
-        slopes = λ i l. each-finite (t .gradient) i (rw (s .gradient) l) (and-first (allFinite (t .gradient)) _ rest);
-        curvatures = λ i l. each-finite (t .hessian) i (rw (s .hessian) l) (and-second (allFinite (t .gradient)) _ rest);
+        likelihood = and-first (isFiniteOf (t .nll)) _ h;
+        slopes = λ i l. each-finite (t .gradient) i (rw (s .gradient) l) (and-first (allFiniteOf (t .gradient)) _ rest);
+        curvatures = λ i l. each-finite (t .hessian) i (rw (s .hessian) l) (and-second (allFiniteOf (t .gradient)) _ rest);
       };
       value = s .value;
       written = s .written;
@@ -108,10 +108,10 @@ module _ (rule : List Pair) (x : List Float) (ls : List ℕ) where
   objective-known = tested (admits x ls) (λ t. rows-known (countOf ls) 0 noTotals (record { gradient = refl; hessian = refl; value = ofBits-fits binary64 0; written = nothing-written })) (λ t. refuses)
 
   -- under a limit, and called alone
-  pub limited-finite : (limit : QuadratureEvaluations) → limitedOf rule x ls limit .end ≡ Answered → Finite (limitedOf rule x ls limit .nll) (limitedOf rule x ls limit .gradient) (limitedOf rule x ls limit .hessian)
-  unfolding limitedOf
+  pub limited-finite : (limit : QuadratureEvaluations) → limitedObjectiveOf rule x ls limit .end ≡ Answered → Finite (limitedObjectiveOf rule x ls limit .v .nll) (limitedObjectiveOf rule x ls limit .v .gradient) (limitedObjectiveOf rule x ls limit .v .hessian)
+  unfolding limitedObjectiveOf
   limited-finite limit h = of-answer at (λ e. tt) (limit .0) 0 noTotals objective-known h .finite
 
-pub objective-finite : (x : List Float) (ls : List ℕ) → objectiveOf x ls .end ≡ Answered → Finite (objectiveOf x ls .nll) (objectiveOf x ls .gradient) (objectiveOf x ls .hessian)
+pub objective-finite : (x : List Float) (ls : List ℕ) → objectiveOf x ls .end ≡ Answered → Finite (objectiveOf x ls .v .nll) (objectiveOf x ls .v .gradient) (objectiveOf x ls .v .hessian)
 unfolding objectiveOf
 objective-finite x ls h = limited-finite legendreOf x ls (record { 0 = 8388608 }) h

@@ -1,9 +1,8 @@
-pub mod Litters
+pub mod Point
 pub mod Totals
 pub mod Objective
 pub mod Named
 pub mod Bound
-pub mod Refused
 pub mod Reasons
 pub mod Finite
 pub mod Checks

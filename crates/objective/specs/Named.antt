@@ -16,9 +16,9 @@ use Rattle.row.specs.Share.{Share}
 use Rattle.value.specs.declared.Totals.{Totals}
 use Rattle.value.specs.Totals.{noTotals}
 use Rattle.objective.specs.declared.sum.Named.{Named}
-use Rattle.objective.specs.Litters.{countOf, groupAt}
+use Rattle.litters.specs.Litters.{countOf, groupAt}
 use Rattle.objective.specs.Totals.{indexOf, finiteTotals, withShare}
-use Rattle.objective.specs.Objective.{shareAt, rows, admits, objective, rowsFrom, limitedOf}
+use Rattle.objective.specs.Objective.{shareAt, rows, admits, objective, rowsFrom, limitedObjectiveOf}
 
 -- what is asked for: the share of the litter of this number, from 0, at this point
 pub record Litter : Type 0 where
@@ -77,13 +77,13 @@ namedFrom rule x ls limit used n i t = record { objective = rowsFrom rule x ls l
 unfoldable pub summedOf : List Pair → List Float → List ℕ → ℕ → Named
 summedOf rule x ls limit = namedFrom rule x ls limit 0 (countOf ls) 0 noTotals
 
-unfoldable pub namedOf : List Pair → List Float → List ℕ → QuadratureEvaluations → Named
-namedOf rule x ls limit = record { objective = limitedOf rule x ls limit; litter = litterOf rule x ls (limit .0) }
+unfoldable pub namedObjectiveOf : List Pair → List Float → List ℕ → QuadratureEvaluations → Named
+namedObjectiveOf rule x ls limit = record { objective = limitedObjectiveOf rule x ls limit; litter = litterOf rule x ls (limit .0) }
 
-pub the-objective : (rule : List Pair) (x : List Float) (ls : List ℕ) (limit : QuadratureEvaluations) (r : Named) → r ≡ namedOf rule x ls limit → r .objective ≡ limitedOf rule x ls limit
-unfolding namedOf
+pub the-objective : (rule : List Pair) (x : List Float) (ls : List ℕ) (limit : QuadratureEvaluations) (r : Named) → r ≡ namedObjectiveOf rule x ls limit → r .objective ≡ limitedObjectiveOf rule x ls limit
+unfolding namedObjectiveOf
 the-objective rule x ls limit r e = rw e
 
-pub the-litter : (rule : List Pair) (x : List Float) (ls : List ℕ) (limit : QuadratureEvaluations) (r : Named) → r ≡ namedOf rule x ls limit → r .litter ≡ litterOf rule x ls (limit .0)
-unfolding namedOf
+pub the-litter : (rule : List Pair) (x : List Float) (ls : List ℕ) (limit : QuadratureEvaluations) (r : Named) → r ≡ namedObjectiveOf rule x ls limit → r .litter ≡ litterOf rule x ls (limit .0)
+unfolding namedObjectiveOf
 the-litter rule x ls limit r e = rw e

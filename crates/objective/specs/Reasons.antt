@@ -19,9 +19,9 @@ use Rattle.posterior.specs.Integrand.{at}
 use Rattle.row.specs.Reasons.{share-reasons}
 use Rattle.value.specs.declared.Totals.{Totals}
 use Rattle.value.specs.Totals.{noTotals}
-use Rattle.objective.specs.Litters.{countOf}
+use Rattle.litters.specs.Litters.{countOf}
 use Rattle.objective.specs.Totals.{finiteTotals}
-use Rattle.objective.specs.Objective.{rows, admits, objective, toObjective, refusalOf, limitedOf, objectiveOf}
+use Rattle.objective.specs.Objective.{rows, admits, objective, toObjective, refusalOf, limitedObjectiveOf, objectiveOf}
 use Rattle.objective.specs.Bound.{objective-in-full}
 
 module _ (rule : List Pair) (x : List Float) (ls : List ℕ) where
@@ -41,17 +41,17 @@ module _ (rule : List Pair) (x : List Float) (ls : List ℕ) where
   admitted-reasons h = rw h (rows-reasons (countOf ls) 0 noTotals)
 
   module _ (limit : QuadratureEvaluations) where
-    pub limited-domain : (r : ℕ) → limitedOf rule x ls limit .end ≡ Domain r → (1 ≤ r) × (r ≤ 6)
-    unfolding limitedOf
+    pub limited-domain : (r : ℕ) → limitedObjectiveOf rule x ls limit .end ≡ Domain r → (1 ≤ r) × (r ≤ 6)
+    unfolding limitedObjectiveOf
     limited-domain r e = metered-domain at (limit .0) 0 r objective-reasons e
 
-    pub limited-refused : isRefused (limitedOf rule x ls limit .end) ≡ true → limitedOf rule x ls limit ≡ refusalOf (limitedOf rule x ls limit .end) (limitedOf rule x ls limit .used)
-    unfolding limitedOf
+    pub limited-refused : isRefused (limitedObjectiveOf rule x ls limit .end) ≡ true → limitedObjectiveOf rule x ls limit ≡ refusalOf (limitedObjectiveOf rule x ls limit .end) (limitedObjectiveOf rule x ls limit .used)
+    unfolding limitedObjectiveOf
     limited-refused h = told-refused toObjective noTotals (metered at (limit .0) 0 (objective rule x ls)) h
 
     -- a point or litters that fail a check
-    pub limited-fails : admits x ls ≡ false → limitedOf rule x ls limit ≡ refusalOf InvalidInput (record { 0 = 0 })
-    unfolding limitedOf objective
+    pub limited-fails : admits x ls ≡ false → limitedObjectiveOf rule x ls limit ≡ refusalOf InvalidInput (record { 0 = 0 })
+    unfolding limitedObjectiveOf objective
     limited-fails h = rw (branch, h, gives-up)
 
 -- called alone

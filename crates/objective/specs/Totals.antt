@@ -6,8 +6,8 @@ use lib.Dec.{ltb}
 use lib.ListN.{getD, set}
 use lib.Ieee.{Float, nan}
 use Rattle.num.specs.F64.{_⊕_}
-use Rattle.num.specs.Helpers.{isFinite, maxOf}
-use Rattle.finite.specs.Finite.{allFinite}
+use Rattle.num.specs.Helpers.{isFiniteOf, maxOf}
+use Rattle.finite.specs.Finite.{allFiniteOf}
 use Rattle.row.specs.Share.{Share}
 use Rattle.value.specs.declared.Totals.{Totals}
 
@@ -34,7 +34,7 @@ accumulatedOf t i nll gradient hessian refinement =
 
 -- the likelihood, and every entry of the gradient and of the Hessian
 unfoldable pub finiteTotals : Totals → Bool
-finiteTotals t = isFinite (t .nll) && (allFinite (t .gradient) && allFinite (t .hessian))
+finiteTotals t = isFiniteOf (t .nll) && (allFiniteOf (t .gradient) && allFiniteOf (t .hessian))
 
 abbrev pub withShare : Totals → ℕ → Share → Totals
 withShare t i s = accumulatedOf t i (s .nll) (s .gradient) (s .hessian) (s .refinement)

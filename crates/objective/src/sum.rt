@@ -7,17 +7,14 @@ use work::QuadratureEvaluations;
 ghost use mathlib.Core.Path.{_≡_};
 ghost use Prim.Native.Nat.{_+_, _*_, _<_};
 ghost use lib.ListN.{length};
-ghost use Rattle.objective.specs.Objective.{refusalOf, answeredOf, endedOf, rowAt, limitedOf, objectiveOf};
-ghost use Rattle.objective.specs.Named.{summedOf, namedOf};
+ghost use Rattle.objective.specs.Objective.{refusalOf, answeredOf, endedOf, rowAt, limitedObjectiveOf, objectiveOf};
+ghost use Rattle.objective.specs.Named.{summedOf, namedObjectiveOf};
 
-// The coordinates are two means, then two variances. The Hessian stands by rows.
+// The coordinates are two means, then two variances.
 pub struct Objective {
     pub end: Ending,
     pub used: QuadratureEvaluations,
-    pub nll: f64,
-    pub gradient: [f64; 4],
-    pub hessian: [f64; 16],
-    pub refinement: f64,
+    pub v: Totals,
 }
 
 // An objective, and the litter at which it was refused, counted from 1: 0 where none was.
@@ -32,25 +29,17 @@ fn refusal(end: Ending, used: QuadratureEvaluations) -> Objective
     Objective {
         end,
         used,
-        nll: 0.0,
-        gradient: [0.0; 4],
-        hessian: [0.0; 16],
-        refinement: 0.0,
+        v: value::nothing(),
     }
 }
 
 fn answered(used: u64, t: Totals) -> Objective
     ensures { λ r. ⌜ r ≡ answeredOf used t ⌝ }
 {
-    let gradient = t.gradient;
-    let hessian = t.hessian;
     Objective {
         end: Ending::Answered,
         used: QuadratureEvaluations(used),
-        nll: t.nll,
-        gradient,
-        hessian,
-        refinement: t.refinement,
+        v: t,
     }
 }
 
@@ -88,12 +77,7 @@ fn summed(rule: [Pair; 16], x: [f64; 4], litters: &[u32], limit: u64) -> Named
 {
     let n = litters.len() / 3;
     let mut used: u64 = 0;
-    let mut t = Totals {
-        nll: 0.0,
-        gradient: [0.0; 4],
-        hessian: [0.0; 16],
-        refinement: 0.0,
-    };
+    let mut t = value::nothing();
     for i in 0..n {
         let number = i as u64 + 1;
         let r = litter(i, rule, x, litters, limit - used);
@@ -124,7 +108,7 @@ pub fn named_objective(
     litters: &[u32],
     limit: QuadratureEvaluations,
 ) -> Named
-    ensures { λ r. ⌜ (r ≡ namedOf rule x (now (litters .entry)) limit) × (now (litters .exit) ≡ now (litters .entry)) ⌝ }
+    ensures { λ r. ⌜ (r ≡ namedObjectiveOf rule x (now (litters .entry)) limit) × (now (litters .exit) ≡ now (litters .entry)) ⌝ }
 {
     if !crate::check::valid_point(x) {
         let objective = refusal(Ending::InvalidInput, QuadratureEvaluations(0));
@@ -133,7 +117,7 @@ pub fn named_objective(
             litter: 0,
         };
     }
-    if !crate::check::valid_litters(litters) {
+    if !litters::valid::valid_litters(litters) {
         let objective = refusal(Ending::InvalidInput, QuadratureEvaluations(0));
         return Named {
             objective,
@@ -149,7 +133,7 @@ pub fn limited_objective(
     litters: &[u32],
     limit: QuadratureEvaluations,
 ) -> Objective
-    ensures { λ r. ⌜ (r ≡ limitedOf rule x (now (litters .entry)) limit) × (now (litters .exit) ≡ now (litters .entry)) ⌝ }
+    ensures { λ r. ⌜ (r ≡ limitedObjectiveOf rule x (now (litters .entry)) limit) × (now (litters .exit) ≡ now (litters .entry)) ⌝ }
 {
     let n = named_objective(rule, x, litters, limit);
     n.objective

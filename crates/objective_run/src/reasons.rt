@@ -1,8 +1,8 @@
 // Each reason of a Domain.
 use panel::Hump;
 use posterior::integrand::Posterior;
+use posterior::range::Range;
 use tail::Hill;
-use tail::Range;
 use work::QuadratureEvaluations;
 
 fn row(name: &[u8], successes: u32, total: u32, mean: f64, variance: f64) {

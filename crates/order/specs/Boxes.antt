@@ -6,7 +6,7 @@ use Prim.Native.Nat.{ℕ, zero, suc, _<_}
 use native.Mathlib.Omega.{arith}
 use lib.ListN.{getD}
 use lib.Ieee.{Float, nan, le}
-use Rattle.num.specs.Helpers.{isFinite}
+use Rattle.num.specs.Helpers.{isFiniteOf}
 use Rattle.order.specs.Numbers.{between-finite}
 
 abbrev pub Four : (ℕ → Type 0) → Type 0
@@ -20,7 +20,7 @@ four P a b c d (suc (suc (suc zero))) l = d
 four P a b c d (suc (suc (suc (suc i)))) l = absurd (omega arith)
 
 abbrev pub FiniteFour : List Float → Type 0
-FiniteFour v = Four (λ i. isFinite (getD v i nan) ≡ true)
+FiniteFour v = Four (λ i. isFiniteOf (getD v i nan) ≡ true)
 
 -- finite bounds, in order
 pub record Box (lo hi : List Float) : Type 0 where

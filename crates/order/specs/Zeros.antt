@@ -13,7 +13,7 @@ use lib.Ieee.Fits.{up-pos, down-pos, neg-fits, add-fits, mul-fits}
 use lib.Ieee.Nearest.{div-same}
 use lib.Ieee.Bits.{ofBits-toBits, ofBits-fits}
 use Rattle.num.specs.F64.{_⊕_, _⊖_, _⊗_, zero·}
-use Rattle.num.specs.Helpers.{absOf, maxOf, clampOf, isFinite}
+use Rattle.num.specs.Helpers.{absOf, maxOf, clampOf, isFiniteOf}
 use Rattle.order.specs.Values.{tests}
 use Rattle.order.specs.Numbers.{finite-number, zero-finite}
 use Rattle.order.specs.Order.{le-both, le-not-lt, not-lt}
@@ -32,7 +32,7 @@ module _ (s : Bool) (m n : ℕ) (e d : ℤ) (same : m * up e * down d ≡ n * up
   unfolding toBits
   same-bits = rw in-units
 
-  one-number : T (fits binary64 (fin s m e)) → T (fits binary64 (fin s n d)) → fin s m e ≡ fin s n d
+  pub one-number : T (fits binary64 (fin s m e)) → T (fits binary64 (fin s n d)) → fin s m e ≡ fin s n d
   one-number h k = sym (ofBits-toBits binary64 (fin s m e) h) ∙ ap (λ b. ofBits binary64 b) same-bits ∙ ofBits-toBits binary64 (fin s n d) k
 
 a-zero : (s : Bool) (e : ℤ) → T (fits binary64 (fin s 0 e)) → fin s 0 e ≡ fin s 0 (pos 0)
@@ -64,18 +64,18 @@ same-number (fin false n d) true m e f g h =
 
 -- ---- sums
 plus-zero : (s : Bool) (m : ℕ) (e : ℤ) → T (fits binary64 (fin s (suc m) e)) → fin s (suc m) e ⊕ zero· ≡ fin s (suc m) e
-plus-zero s m e f = same-number _ s m e (add-fits binary64 _ _) f (add-zero (fin s (suc m) e) (unfold isFinite in refl) f)
+plus-zero s m e f = same-number _ s m e (add-fits binary64 _ _) f (add-zero (fin s (suc m) e) (unfold isFiniteOf in refl) f)
 
 zero-plus : (s : Bool) (m : ℕ) (e : ℤ) → T (fits binary64 (fin s (suc m) e)) → zero· ⊕ fin s (suc m) e ≡ fin s (suc m) e
 zero-plus s m e f = add-swap zero· (fin s (suc m) e) ∙ plus-zero s m e f
 
-add-minus-zero : (a : Float) → isFinite a ≡ true → T (fits binary64 a) → eq (a ⊕ neg zero·) a ≡ true
-unfolding ofBits neg isFinite
+add-minus-zero : (a : Float) → isFiniteOf a ≡ true → T (fits binary64 a) → eq (a ⊕ neg zero·) a ≡ true
+unfolding ofBits neg isFiniteOf
 add-minus-zero a i f = rounds-own a i f (add-rounds a (neg zero·) i refl) (omega arith)
 
 minus-zero-plus : (s : Bool) (m : ℕ) (e : ℤ) → T (fits binary64 (fin s (suc m) e)) → neg zero· ⊕ fin s (suc m) e ≡ fin s (suc m) e
 minus-zero-plus s m e f =
-    add-swap (neg zero·) (fin s (suc m) e) ∙ same-number _ s m e (add-fits binary64 _ _) f (add-minus-zero (fin s (suc m) e) (unfold isFinite in refl) f)
+    add-swap (neg zero·) (fin s (suc m) e) ∙ same-number _ s m e (add-fits binary64 _ _) f (add-minus-zero (fin s (suc m) e) (unfold isFiniteOf in refl) f)
 
 steady-nan : (zero· ⊕ nan) ⊕ zero· ≡ zero· ⊕ nan
 unfolding add ofBits
@@ -207,12 +207,12 @@ zero-kind (inf s) f h = absurd (false≢true h)
 zero-kind (fin s zero e) f h = rw (a-zero s e f) (kind-of s)
 zero-kind (fin s (suc m) e) f h = absurd (omega (arith, some-size m e (pos 0), eqb-true (suc m * up e * down (pos 0)) _ (first-of _ _ h)))
 
-times-zero : (a : Float) → isFinite a ≡ true → eq (a ⊗ zero·) zero· ≡ true
-unfolding ofBits isFinite
+times-zero : (a : Float) → isFiniteOf a ≡ true → eq (a ⊗ zero·) zero· ≡ true
+unfolding ofBits isFiniteOf
 times-zero a i = rounds-own zero· refl (ofBits-fits binary64 0) (mul-rounds a zero· i refl) (omega arith)
 
-times-minus-zero : (a : Float) → isFinite a ≡ true → eq (a ⊗ neg zero·) zero· ≡ true
-unfolding ofBits isFinite neg
+times-minus-zero : (a : Float) → isFiniteOf a ≡ true → eq (a ⊗ neg zero·) zero· ≡ true
+unfolding ofBits isFiniteOf neg
 times-minus-zero a i = rounds-own zero· refl (ofBits-fits binary64 0) (mul-rounds a (neg zero·) i refl) (omega arith)
 
 held-zero : {z : Float} → Zero z → clampOf (zero· ⊕ z) zero· zero· ≡ zero·
@@ -220,8 +220,8 @@ unfolding clampOf add neg ofBits lt
 held-zero plus = refl
 held-zero minus = refl
 
-pub held-plus : (a : Float) → isFinite a ≡ true → clampOf (zero· ⊕ a ⊗ zero·) zero· zero· ≡ zero·
+pub held-plus : (a : Float) → isFiniteOf a ≡ true → clampOf (zero· ⊕ a ⊗ zero·) zero· zero· ≡ zero·
 held-plus a i = held-zero (zero-kind _ (mul-fits binary64 a zero·) (times-zero a i))
 
-pub held-minus : (a : Float) → isFinite a ≡ true → clampOf (zero· ⊕ a ⊗ neg zero·) zero· zero· ≡ zero·
+pub held-minus : (a : Float) → isFiniteOf a ≡ true → clampOf (zero· ⊕ a ⊗ neg zero·) zero· zero· ≡ zero·
 held-minus a i = held-zero (zero-kind _ (mul-fits binary64 a (neg zero·)) (times-minus-zero a i))

@@ -10,7 +10,7 @@ use lib.ListN.{length, take, length-append}
 use lib.Seq.{paste, length-paste, take-paste, take-all, take-length, take-nil, length-take-le}
 use Rattle.read.specs.Request.{readRequest}
 use Rattle.read.specs.Rows.{fillRequest}
-use Rattle.parts.specs.Kept.{roomFor}
+use Rattle.parts.specs.Kept.{roomForOf}
 
 take-both : (n : ℕ) (s t : List ℕ) → take n (s ++ t) ≡ take n s ++ take (n - length s) t
 take-both n [] t = rw take-nil (let e : n - 0 ≡ n = omega arith in rw e refl)
@@ -34,8 +34,8 @@ pub record Keeps (bytes : List ℕ) (n : ℕ) (text : List ℕ) : Type 0 where
   pub count : n ≡ min (length text) 8193
   pub kept : take n bytes ≡ take 8193 text
 
-pub more : (bytes text p : List ℕ) (n : ℕ) → Keeps bytes n text → Keeps (paste bytes n p (roomFor n (length p))) (n + roomFor n (length p)) (text ++ p)
-unfolding roomFor
+pub more : (bytes text p : List ℕ) (n : ℕ) → Keeps bytes n text → Keeps (paste bytes n p (roomForOf n (length p))) (n + roomForOf n (length p)) (text ++ p)
+unfolding roomForOf
 more bytes text p n h =
     let k = min (length p) (8193 - n) in
     let in-bytes : n + k ≤ length bytes = omega (arith, h .whole, h .count) in

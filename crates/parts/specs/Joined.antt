@@ -7,8 +7,8 @@ use lib.ListN.{length, take, length-replicate}
 use Rattle.read.specs.Request.{readRequest}
 use Rattle.read.specs.Rows.{fillRequest}
 use Rattle.parts.specs.declared.by_value.Reader.{Reader}
-use Rattle.parts.specs.Kept.{roomFor}
-use Rattle.parts.specs.ByValue.{freshOf, takenOf, finishedOf}
+use Rattle.parts.specs.Kept.{roomForOf}
+use Rattle.parts.specs.ByValue.{freshOf, partOf, finishedOf}
 use Rattle.parts.specs.Front.{Keeps, more, read-kept, fill-kept}
 
 -- ---- any list of parts, and any state that takes them
@@ -38,19 +38,19 @@ pub fresh-holds : Holds freshOf []
 unfolding freshOf
 fresh-holds = record { keeps = record { whole = length-replicate {A = ℕ} 8193 0; count = refl; kept = refl }; unfinished = refl }
 
-pub part-holds : (r : Reader) (text p : List ℕ) → Holds r text → Holds (takenOf r p .reader) (text ++ p)
-unfolding takenOf
+pub part-holds : (r : Reader) (text p : List ℕ) → Holds r text → Holds (partOf r p .reader) (text ++ p)
+unfolding partOf
 part-holds r text p h =
     let m = more (r .bytes) text p (r .n) (h .keeps) in
     rw (h .unfinished) (record { keeps = m; unfinished = refl })
 
 -- a part is taken before finishing, and refused after it, when the reader stays as it was
-pub part-taken : (r : Reader) (text p : List ℕ) → Holds r text → takenOf r p .refused ≡ false
-unfolding takenOf
+pub part-taken : (r : Reader) (text p : List ℕ) → Holds r text → partOf r p .refused ≡ false
+unfolding partOf
 part-taken r text p h = rw (h .unfinished) refl
 
-pub part-refused : (r : Reader) (p : List ℕ) → takenOf (finishedOf r) p ≡ record { reader = finishedOf r; refused = true }
-unfolding takenOf
+pub part-refused : (r : Reader) (p : List ℕ) → partOf (finishedOf r) p ≡ record { reader = finishedOf r; refused = true }
+unfolding partOf
 part-refused r p = refl
 
 pub finish-again : (r : Reader) → finishedOf (finishedOf r) ≡ finishedOf r
@@ -58,10 +58,10 @@ finish-again r = refl
 
 -- a new reader after the parts
 abbrev pub readerAfter : List (List ℕ) → Reader
-readerAfter ps = afterParts (λ (r : Reader) (p : List ℕ). takenOf r p .reader) freshOf ps
+readerAfter ps = afterParts (λ (r : Reader) (p : List ℕ). partOf r p .reader) freshOf ps
 
 pub parts-hold : (ps : List (List ℕ)) → Holds (readerAfter ps) (joined ps)
-parts-hold ps = all-keep (λ (r : Reader) (p : List ℕ). takenOf r p .reader) Holds part-holds ps freshOf [] fresh-holds
+parts-hold ps = all-keep (λ (r : Reader) (p : List ℕ). partOf r p .reader) Holds part-holds ps freshOf [] fresh-holds
 
 -- `finish` reads `take n bytes`, at every call: `finishedOf` keeps both
 pub in-parts : (ps : List (List ℕ)) → let r = readerAfter ps in readRequest (take (r .n) (r .bytes)) ≡ readRequest (joined ps)

@@ -2,5 +2,5 @@
 use Prim.Native.Nat.{ℕ, _-_, min}
 
 -- how many of len bytes have a place behind n
-unfoldable pub roomFor : ℕ → ℕ → ℕ
-roomFor n len = min len (8193 - n)
+unfoldable pub roomForOf : ℕ → ℕ → ℕ
+roomForOf n len = min len (8193 - n)

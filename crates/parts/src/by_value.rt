@@ -4,7 +4,7 @@ ghost use mathlib.Core.Path.{_≡_};
 ghost use lib.ListN.{take};
 ghost use Rattle.read.specs.Request.{readRequest};
 ghost use Rattle.read.specs.Rows.{fillRequest, askingOf};
-ghost use Rattle.parts.specs.ByValue.{freshOf, takenOf, finishedOf};
+ghost use Rattle.parts.specs.ByValue.{freshOf, partOf, finishedOf};
 
 // The first n bytes are kept.
 pub struct Reader {
@@ -35,7 +35,7 @@ pub fn new() -> Reader
 }
 
 pub fn part(r: Reader, bytes: &[u8]) -> Taken
-    ensures { λ t. ⌜ t ≡ takenOf r (now (bytes .entry)) ⌝ }
+    ensures { λ t. ⌜ t ≡ partOf r (now (bytes .entry)) ⌝ }
 {
     if r.finished {
         return Taken {

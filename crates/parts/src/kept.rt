@@ -7,7 +7,7 @@ ghost use lib.ListN.{length, take};
 ghost use lib.Seq.{paste};
 ghost use Rattle.read.specs.Request.{readRequest};
 ghost use Rattle.read.specs.Rows.{fillRequest, askingOf};
-ghost use Rattle.parts.specs.Kept.{roomFor};
+ghost use Rattle.parts.specs.Kept.{roomForOf};
 
 fn least(a: usize, b: usize) -> usize
     ensures { λ r. ⌜ r ≡ min a b ⌝ }
@@ -24,7 +24,7 @@ pub fn reach(n: usize) -> usize
 
 // How many of `len` bytes have a place behind n.
 fn room_for(n: usize, len: usize) -> usize
-    ensures { λ r. ⌜ r ≡ roomFor n len ⌝ }
+    ensures { λ r. ⌜ r ≡ roomForOf n len ⌝ }
 {
     if 8193 <= n {
         return 0;
@@ -44,8 +44,8 @@ fn copied(into: &mut [u8], at: usize, bytes: &[u8], count: usize)
 // Bytes put behind the n that are kept; answers how many are kept then.
 pub fn more(buffer: &mut [u8], n: usize, bytes: &[u8]) -> usize
     requires { ⌜ length (now buffer) ≡ 8193 ⌝ }
-    ensures { λ r. ⌜ r ≡ n + roomFor n (length (now (bytes .entry))) ⌝ }
-    ensures { λ _. ⌜ now (buffer .exit) ≡ paste (now (buffer .entry)) n (now (bytes .entry)) (roomFor n (length (now (bytes .entry)))) ⌝ }
+    ensures { λ r. ⌜ r ≡ n + roomForOf n (length (now (bytes .entry))) ⌝ }
+    ensures { λ _. ⌜ now (buffer .exit) ≡ paste (now (buffer .entry)) n (now (bytes .entry)) (roomForOf n (length (now (bytes .entry)))) ⌝ }
 {
     let len = bytes.len();
     let k = room_for(n, len);

@@ -4,17 +4,17 @@ use read::Asking;
 ghost use mathlib.Core.Path.{_≡_};
 ghost use mathlib.Core.Bool.{cond};
 ghost use lib.ListN.{length};
-ghost use Rattle.parts.specs.Lent.{lent, told, sized, finishRoom, requestNumbers, partIn, finishIn};
+ghost use Rattle.parts.specs.Lent.{lent, told, isSizedOf, finishRoomOf, requestNumbersOf, partInOf, finishInOf};
 
 pub fn is_sized(buffer: usize, counts: usize) -> bool
-    ensures { λ r. ⌜ r ≡ sized buffer counts ⌝ }
+    ensures { λ r. ⌜ r ≡ isSizedOf buffer counts ⌝ }
 {
     num::both(buffer == 8193, counts == 2)
 }
 
 // Answers 0; 4 after finishing, for Form with line 0, and then nothing is written.
 pub fn part_in(buffer: &mut [u8], counts: &mut [u64], bytes: &[u8]) -> u64
-    ensures { λ r. ⌜ lent r (now (buffer .exit)) (now (counts .exit)) ≡ partIn (now (buffer .entry)) (now (counts .entry)) (now (bytes .entry)) ⌝ }
+    ensures { λ r. ⌜ lent r (now (buffer .exit)) (now (counts .exit)) ≡ partInOf (now (buffer .entry)) (now (counts .entry)) (now (bytes .entry)) ⌝ }
 {
     if !is_sized(buffer.len(), counts.len()) {
         return 1;
@@ -29,7 +29,7 @@ pub fn part_in(buffer: &mut [u8], counts: &mut [u64], bytes: &[u8]) -> u64
 }
 
 fn finish_room(buffer: usize, counts: usize, request: usize, litters: usize) -> bool
-    ensures { λ r. ⌜ r ≡ finishRoom buffer counts request litters ⌝ }
+    ensures { λ r. ⌜ r ≡ finishRoomOf buffer counts request litters ⌝ }
 {
     num::both(
         is_sized(buffer, counts),
@@ -38,7 +38,7 @@ fn finish_room(buffer: usize, counts: usize, request: usize, litters: usize) -> 
 }
 
 fn request_numbers(a: Asking) -> [u64; 18]
-    ensures { λ r. ⌜ r ≡ requestNumbers a ⌝ }
+    ensures { λ r. ⌜ r ≡ requestNumbersOf a ⌝ }
 {
     let v = a.values;
     [
@@ -71,7 +71,7 @@ fn ending(fits: bool) -> u64
 
 // Answers 0 with the request, 4 for Form with its line.
 pub fn finish_in(buffer: &[u8], counts: &mut [u64], request: &mut [u64], litters: &mut [u32]) -> u64
-    ensures { λ r. ⌜ told r (now (counts .exit)) (now (request .exit)) (now (litters .exit)) ≡ finishIn (now (buffer .entry)) (now (counts .entry)) (now (request .entry)) (now (litters .entry)) ⌝ }
+    ensures { λ r. ⌜ told r (now (counts .exit)) (now (request .exit)) (now (litters .exit)) ≡ finishInOf (now (buffer .entry)) (now (counts .entry)) (now (request .entry)) (now (litters .entry)) ⌝ }
 {
     if !finish_room(buffer.len(), counts.len(), request.len(), litters.len()) {
         return 1;
@@ -81,7 +81,7 @@ pub fn finish_in(buffer: &[u8], counts: &mut [u64], request: &mut [u64], litters
     let a = crate::kept::request(buffer, n, &mut rows);
     let numbers = request_numbers(a);
     counts[1] = 1;
-    put::counts(&numbers, request);
-    put::litters(&rows, litters);
+    store::counts(&numbers, request);
+    store::litters(&rows, litters);
     ending(a.fits)
 }

@@ -8,15 +8,15 @@ use Rattle.planar.specs.declared.Planar.{Planar}
 abbrev pub noPlanar : Planar
 noPlanar = record { nll = zero·; x = zero·; y = zero·; xx = zero·; xy = zero·; yy = zero· }
 
-abbrev pub among : Float → Float → List Float
-among x y = zero· ∷ x ∷ zero· ∷ y ∷ []
+abbrev pub amongFourOf : Float → Float → List Float
+amongFourOf x y = zero· ∷ x ∷ zero· ∷ y ∷ []
 
-abbrev pub widen : Planar → Totals
-widen v =
+abbrev pub widenedOf : Planar → Totals
+widenedOf v =
     let o = zero· in
     record {
       nll = v .nll;
-      gradient = among (v .x) (v .y);
+      gradient = amongFourOf (v .x) (v .y);
       hessian = o ∷ o ∷ o ∷ o ∷ o ∷ v .xx ∷ o ∷ v .xy ∷ o ∷ o ∷ o ∷ o ∷ o ∷ v .xy ∷ o ∷ v .yy ∷ [];
       refinement = o;
     }

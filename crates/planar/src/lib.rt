@@ -1,7 +1,7 @@
 // A value in two coordinates, and the same among four, of which the first and the third are held at zero.
 use value::Totals;
 ghost use mathlib.Core.Path.{_≡_};
-ghost use Rattle.planar.specs.Planar.{noPlanar, among, widen};
+ghost use Rattle.planar.specs.Planar.{noPlanar, amongFourOf, widenedOf};
 
 // The negative log-likelihood, its gradient, and its Hessian, which is the same either way across.
 pub struct Planar {
@@ -28,13 +28,13 @@ pub fn nothing() -> Planar
 }
 
 pub fn among_four(x: f64, y: f64) -> [f64; 4]
-    ensures { λ r. ⌜ r ≡ among x y ⌝ }
+    ensures { λ r. ⌜ r ≡ amongFourOf x y ⌝ }
 {
     [0.0, x, 0.0, y]
 }
 
 pub fn widened(v: Planar) -> Totals
-    ensures { λ r. ⌜ r ≡ widen v ⌝ }
+    ensures { λ r. ⌜ r ≡ widenedOf v ⌝ }
 {
     Totals {
         nll: v.nll,

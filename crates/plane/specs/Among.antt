@@ -7,28 +7,28 @@ use lib.Ieee.{Float, binary64, neg, add, sub, mul, div, lt, le, eq, fits, ofBits
 use lib.Ieee.Fits.{mul-fits, cond-fits}
 use lib.Ieee.Bits.{ofBits-fits}
 use Rattle.num.specs.F64.{_⊕_, _⊖_, _⊗_, _⊘_, zero·, one·}
-use Rattle.num.specs.Helpers.{absOf, maxOf, clampOf, isFinite}
+use Rattle.num.specs.Helpers.{absOf, maxOf, clampOf, isFiniteOf}
 use Rattle.order.specs.Numbers.{finite-number, le-right}
 use Rattle.order.specs.Products.{mul-swap}
 use Rattle.order.specs.Choices.{abs-not-below}
 use Rattle.order.specs.Zeros.{steady, begun-at-zero, abs-steady, zero-max, max-zero, held-plus, held-minus}
 use Rattle.planar.specs.declared.Planar.{Planar}
-use Rattle.planar.specs.Planar.{among, widen}
+use Rattle.planar.specs.Planar.{amongFourOf, widenedOf}
 use Rattle.step.specs.declared.Move.{Move}
 use Rattle.step.specs.Step as four
-use Rattle.trial.specs.Judged.{normAt}
+use Rattle.trial.specs.Judged.{normAtOf}
 use Rattle.stepper.specs.declared.Plan.{Plan}
-use Rattle.stepper.specs.Machine.{directionAt, problemOf}
+use Rattle.stepper.specs.Machine.{directionAtOf, problemOf}
 use Rattle.plane.specs.Plane.{Spot, Course, projectedOf, normOf, stepOf, poor, safeOf, directionOf, candidateOf, slopeOf, stillOf, planeOf}
 use Rattle.plane.specs.Mirror.{Alike}
 
 abbrev pub placed : Spot → List Float
-placed s = among (s .x) (s .y)
+placed s = amongFourOf (s .x) (s .y)
 
 -- what is known of every value: its gradient is finite
 pub record Good (v : Planar) : Type 0 where
-  pub x : isFinite (v .x) ≡ true
-  pub y : isFinite (v .y) ≡ true
+  pub x : isFiniteOf (v .x) ≡ true
+  pub y : isFiniteOf (v .y) ≡ true
   pub x-fits : T (fits binary64 (v .x))
   pub y-fits : T (fits binary64 (v .y))
 
@@ -69,12 +69,12 @@ zero-minus-square : zero· ⊗ neg zero· ≡ neg zero·
 unfolding mul neg ofBits
 zero-minus-square = refl
 
-zero-finite : isFinite zero· ≡ true
-unfolding isFinite ofBits
+zero-finite : isFiniteOf zero· ≡ true
+unfolding isFiniteOf ofBits
 zero-finite = refl
 
-minus-finite : isFinite (neg zero·) ≡ true
-unfolding isFinite neg ofBits
+minus-finite : isFiniteOf (neg zero·) ≡ true
+unfolding isFiniteOf neg ofBits
 minus-finite = refl
 
 -- the held pair's step
@@ -83,29 +83,29 @@ unfolding div neg maxOf lt ofBits
 held-step = refl
 
 -- ---- the projection and the norm
-project-among : (s : Spot) (v : Planar) (low high : Spot) → four.projectOf (placed s) (among (v .x) (v .y)) (placed low) (placed high) ≡ placed (projectedOf s v low high)
+project-among : (s : Spot) (v : Planar) (low high : Spot) → four.projectOf (placed s) (amongFourOf (v .x) (v .y)) (placed low) (placed high) ≡ placed (projectedOf s v low high)
 unfolding four.projectOf projectedOf
 project-among s v low high = rw (zero-eq, zero-lt)
 
-norm-among : (g : Spot) → isFinite (g .x) ≡ true → isFinite (g .y) ≡ true → T (fits binary64 (g .x)) → four.normOf (placed g) ≡ normOf g
+norm-among : (g : Spot) → isFiniteOf (g .x) ≡ true → isFiniteOf (g .y) ≡ true → T (fits binary64 (g .x)) → four.normOf (placed g) ≡ normOf g
 unfolding four.normOf normOf
 norm-among g i j f =
     let n = finite-number (g .x) i in
     let h = abs-not-below (g .x) n in
     rw (zero-abs, zero-larger, zero-max (absOf (g .x)) (le-right zero· (absOf (g .x)) h) h (abs-steady (g .x) f), max-zero (absOf (g .x)) (le-right zero· (absOf (g .x)) h) h (abs-steady (g .x) f))
 
-cond-finite : (b : Bool) (x y : Float) → isFinite x ≡ true → isFinite y ≡ true → isFinite (cond b x y) ≡ true
+cond-finite : (b : Bool) (x y : Float) → isFiniteOf x ≡ true → isFiniteOf y ≡ true → isFiniteOf (cond b x y) ≡ true
 cond-finite true x y i j = i
 cond-finite false x y i j = j
 
-projected-finite : (x g low high : Float) → isFinite g ≡ true → isFinite (four.projectAt x g low high) ≡ true
+projected-finite : (x g low high : Float) → isFiniteOf g ≡ true → isFiniteOf (four.projectAtOf x g low high) ≡ true
 projected-finite x g low high i = cond-finite (eq x low && lt zero· g) _ _ zero-finite (cond-finite (eq x high && lt g zero·) _ _ zero-finite i)
 
-projected-fits : (x g low high : Float) → T (fits binary64 g) → T (fits binary64 (four.projectAt x g low high))
+projected-fits : (x g low high : Float) → T (fits binary64 g) → T (fits binary64 (four.projectAtOf x g low high))
 projected-fits x g low high f =
     cond-fits binary64 (eq x low && lt zero· g) _ _ (ofBits-fits binary64 0) (cond-fits binary64 (eq x high && lt g zero·) _ _ (ofBits-fits binary64 0) f)
 
-norm-same : (s : Spot) (v : Planar) (low high : Spot) → Good v → normAt (placed low) (placed high) (placed s) (widen v) ≡ normOf (projectedOf s v low high)
+norm-same : (s : Spot) (v : Planar) (low high : Spot) → Good v → normAtOf (placed low) (placed high) (placed s) (widenedOf v) ≡ normOf (projectedOf s v low high)
 norm-same s v low high k =
     ap four.normOf (project-among s v low high)
     ∙ norm-among (projectedOf s v low high) (unfold projectedOf in projected-finite _ _ _ _ (k .x)) (unfold projectedOf in projected-finite _ _ _ _ (k .y)) (unfold projectedOf in projected-fits _ _ _ _ (k .x-fits))
@@ -119,10 +119,10 @@ dot-among g m =
     rw (zero-minus-square, zero-sum-minus, zero-square, steady (g .x ⊗ m .mean) (mul-fits binary64 (g .x) (m .mean)), mul-swap (m .mean) (g .x), mul-swap (m .variance) (g .y))
     (begun-at-zero (g .x ⊗ m .mean) (g .y ⊗ m .variance) (mul-fits binary64 _ _) (mul-fits binary64 _ _))
 
-finite-among : (m : Move) → four.finiteFour (way false m) ≡ (isFinite (m .mean) && isFinite (m .variance))
+finite-among : (m : Move) → four.finiteFourOf (way false m) ≡ (isFiniteOf (m .mean) && isFiniteOf (m .variance))
 finite-among m = rw (minus-finite, zero-finite)
 
-poor-among : (g : Spot) (m : Move) → (not (four.finiteFour (way false m)) || le zero· (four.dotOf (placed g) (way false m))) ≡ poor g m
+poor-among : (g : Spot) (m : Move) → (not (four.finiteFourOf (way false m)) || le zero· (four.dotOf (placed g) (way false m))) ≡ poor g m
 poor-among g m = rw (finite-among m, dot-among g m)
 
 safe-by : (b : Bool) (g : Spot) (m : Move) → cond b (neg zero· ∷ neg (g .x) ∷ neg zero· ∷ neg (g .y) ∷ []) (way false m) ≡ way b (cond b (record { mean = neg (g .x); variance = neg (g .y) }) m)
@@ -134,30 +134,30 @@ unfolding four.safeOf safeOf
 safe-among g m = rw (poor-among g m) (safe-by (poor g m) g m)
 
 -- the pair that moves is the second group; the first is held by its bounds
-joined-among : (s g : Spot) (v : Planar) (low high : Spot) → four.joined (four.groupStep (placed s) (placed g) (widen v .hessian) (placed low) (placed high) 0) (four.groupStep (placed s) (placed g) (widen v .hessian) (placed low) (placed high) 1) ≡ way false (stepOf s g v low high)
+joined-among : (s g : Spot) (v : Planar) (low high : Spot) → four.joined (four.groupStepOf (placed s) (placed g) (widenedOf v .hessian) (placed low) (placed high) 0) (four.groupStepOf (placed s) (placed g) (widenedOf v .hessian) (placed low) (placed high) 1) ≡ way false (stepOf s g v low high)
 unfolding four.aloneOf
 joined-among s g v low high = rw (zero-eq, held-step)
 
-directed : (s g : Spot) (v : Planar) (low high : Spot) → four.safeOf (placed g) (four.joined (four.groupStep (placed s) (placed g) (widen v .hessian) (placed low) (placed high) 0) (four.groupStep (placed s) (placed g) (widen v .hessian) (placed low) (placed high) 1)) ≡ way (poor g (stepOf s g v low high)) (safeOf g (stepOf s g v low high))
+directed : (s g : Spot) (v : Planar) (low high : Spot) → four.safeOf (placed g) (four.joined (four.groupStepOf (placed s) (placed g) (widenedOf v .hessian) (placed low) (placed high) 0) (four.groupStepOf (placed s) (placed g) (widenedOf v .hessian) (placed low) (placed high) 1)) ≡ way (poor g (stepOf s g v low high)) (safeOf g (stepOf s g v low high))
 directed s g v low high = ap (four.safeOf (placed g)) (joined-among s g v low high) ∙ safe-among g (stepOf s g v low high)
 
-direction-among : (s : Spot) (v : Planar) (low high : Spot) → directionAt (placed low) (placed high) (placed s) (widen v) ≡ (let g = projectedOf s v low high in way (poor g (stepOf s g v low high)) (directionOf s v low high))
+direction-among : (s : Spot) (v : Planar) (low high : Spot) → directionAtOf (placed low) (placed high) (placed s) (widenedOf v) ≡ (let g = projectedOf s v low high in way (poor g (stepOf s g v low high)) (directionOf s v low high))
 unfolding four.directionOf
 direction-among s v low high = rw (project-among s v low high) (directed s (projectedOf s v low high) v low high)
 
 -- ---- the candidate, the slope and whether it moved
-candidate-by : (b : Bool) (s : Spot) (m : Move) (alpha : Float) (low high : Spot) → isFinite alpha ≡ true → four.candidateOf (placed s) (way b m) alpha (placed low) (placed high) ≡ placed (candidateOf s m alpha low high)
+candidate-by : (b : Bool) (s : Spot) (m : Move) (alpha : Float) (low high : Spot) → isFiniteOf alpha ≡ true → four.candidateOf (placed s) (way b m) alpha (placed low) (placed high) ≡ placed (candidateOf s m alpha low high)
 unfolding four.candidateOf candidateOf
 candidate-by true s m alpha low high i = rw (held-minus alpha i)
 candidate-by false s m alpha low high i = rw (held-minus alpha i, held-plus alpha i)
 
-candidate-among : (s : Spot) (v : Planar) (alpha : Float) (low high : Spot) → isFinite alpha ≡ true → four.candidateOf (placed s) (directionAt (placed low) (placed high) (placed s) (widen v)) alpha (placed low) (placed high) ≡ placed (candidateOf s (directionOf s v low high) alpha low high)
+candidate-among : (s : Spot) (v : Planar) (alpha : Float) (low high : Spot) → isFiniteOf alpha ≡ true → four.candidateOf (placed s) (directionAtOf (placed low) (placed high) (placed s) (widenedOf v)) alpha (placed low) (placed high) ≡ placed (candidateOf s (directionOf s v low high) alpha low high)
 candidate-among s v alpha low high i =
     let g = projectedOf s v low high in
     ap (λ d. four.candidateOf (placed s) d alpha (placed low) (placed high)) (direction-among s v low high)
     ∙ candidate-by (poor g (stepOf s g v low high)) s (directionOf s v low high) alpha low high i
 
-slope-among : (v : Planar) (next s : Spot) → four.slopeOf (among (v .x) (v .y)) (placed next) (placed s) ≡ slopeOf v next s
+slope-among : (v : Planar) (next s : Spot) → four.slopeOf (amongFourOf (v .x) (v .y)) (placed next) (placed s) ≡ slopeOf v next s
 unfolding four.slopeOf slopeOf
 slope-among v next s =
     rw (zero-difference, zero-square, zero-sum, steady (v .x ⊗ (next .x ⊖ s .x)) (mul-fits binary64 (v .x) (next .x ⊖ s .x)))
@@ -170,7 +170,7 @@ still-among next s = rw zero-eq
 abbrev pub planOf : Course → Plan
 planOf p = record { lo = placed (p .low); hi = placed (p .high); tolerance = p .tolerance; most = record { 0 = p .most }; turns = record { 0 = p .turns } }
 
-pub alike : (p : Course) → Alike (planeOf p) (problemOf (planOf p)) placed widen Good
+pub alike : (p : Course) → Alike (planeOf p) (problemOf (planOf p)) placed widenedOf Good
 alike p =
     record {
       nll = λ v. refl;

@@ -7,7 +7,7 @@ use Prim.Native.Nat.{ℕ, zero, suc, _+_}
 use lib.Dec.{leb}
 use lib.Ieee.{Float, le, mul, ofBits}
 use Rattle.num.specs.F64.{_⊗_, half·, one·}
-use Rattle.num.specs.Helpers.{isFinite}
+use Rattle.num.specs.Helpers.{isFiniteOf}
 use Rattle.work.specs.Ended.{Ended, done, stopped, short}
 use Rattle.work.specs.Work.{Work, ret, ask, _>>=_, Metered, metered}
 use Rattle.work.specs.Metered.{split, after, metered-bind}
@@ -18,26 +18,26 @@ use Rattle.descent.specs.Descent.{Problem, Asked, Step, to, nowhere, Tried, Sea
 
 -- n halvings of alpha, each of them finite
 data Halves : ℕ → Float → Type 0 where
-  at-last : {alpha : Float} → isFinite alpha ≡ true → Halves zero alpha
-  and-half : {n : ℕ} {alpha : Float} → isFinite alpha ≡ true → Halves n (alpha ⊗ half·) → Halves (suc n) alpha
+  at-last : {alpha : Float} → isFiniteOf alpha ≡ true → Halves zero alpha
+  and-half : {n : ℕ} {alpha : Float} → isFiniteOf alpha ≡ true → Halves n (alpha ⊗ half·) → Halves (suc n) alpha
 
 halve : {n : ℕ} {alpha : Float} → Halves (suc n) alpha → Halves n (alpha ⊗ half·)
 halve (and-half i h) = h
 
-finite : {n : ℕ} {alpha : Float} → Halves n alpha → isFinite alpha ≡ true
+finite : {n : ℕ} {alpha : Float} → Halves n alpha → isFiniteOf alpha ≡ true
 finite (at-last i) = i
 finite (and-half i h) = i
 
 abbrev all-finite : ℕ → Float → Bool
-all-finite zero alpha = isFinite alpha
-all-finite (suc n) alpha = cond (isFinite alpha) (all-finite n (alpha ⊗ half·)) false
+all-finite zero alpha = isFiniteOf alpha
+all-finite (suc n) alpha = cond (isFiniteOf alpha) (all-finite n (alpha ⊗ half·)) false
 
 by-test : (n : ℕ) (alpha : Float) → all-finite n alpha ≡ true → Halves n alpha
 by-test zero alpha h = at-last h
-by-test (suc n) alpha h = split (isFinite alpha) (λ t. and-half t (by-test n (alpha ⊗ half·) (rw t at h))) (λ t. absurd (false≢true (rw t at h)))
+by-test (suc n) alpha h = split (isFiniteOf alpha) (λ t. and-half t (by-test n (alpha ⊗ half·) (rw t at h))) (λ t. absurd (false≢true (rw t at h)))
 
 from-one : Halves 48 one·
-unfolding isFinite mul ofBits
+unfolding isFiniteOf mul ofBits
 from-one = by-test 48 one· refl
 
 -- ---- across
@@ -67,7 +67,7 @@ module _ {X O D X′ O′ D′ : Type 0} (p : Problem X O D) (p′ : Problem X�
   pub record Alike : Type 0 where
     pub nll : (v : O) → p′ .nll (g v) ≡ p .nll v
     pub norm : (x : X) (v : O) → Good v → p′ .norm (f x) (g v) ≡ p .norm x v
-    pub candidate : (x : X) (v : O) (alpha : Float) → isFinite alpha ≡ true → p′ .candidate (f x) (p′ .direction (f x) (g v)) alpha ≡ f (p .candidate x (p .direction x v) alpha)
+    pub candidate : (x : X) (v : O) (alpha : Float) → isFiniteOf alpha ≡ true → p′ .candidate (f x) (p′ .direction (f x) (g v)) alpha ≡ f (p .candidate x (p .direction x v) alpha)
     pub slope : (x : X) (v : O) (next : X) → p′ .slope (f x) (g v) (f next) ≡ p .slope x v next
     pub still : (next x : X) → p′ .still (f next) (f x) ≡ p .still next x
     pub tolerance : p′ .tolerance ≡ p .tolerance
@@ -114,7 +114,7 @@ module _ {X O D X′ O′ D′ : Type 0} (p : Problem X O D) (p′ : Problem X�
         (rets (rw (a .slope x v next, a .nll v, a .nll c) (tried (there j))))
         (rets (rw (a .slope x v next, a .nll v, a .nll c) (tried none))))))
 
-    tries : (x : X) (v : O) (alpha : Float) (e : ℕ) (ts : List Trial) → Good v → isFinite alpha ≡ true → Mirrors Trieds (try p x v (p .direction x v) alpha e ts) (try p′ (f x) (g v) (p′ .direction (f x) (g v)) alpha e ts)
+    tries : (x : X) (v : O) (alpha : Float) (e : ℕ) (ts : List Trial) → Good v → isFiniteOf alpha ≡ true → Mirrors Trieds (try p x v (p .direction x v) alpha e ts) (try p′ (f x) (g v) (p′ .direction (f x) (g v)) alpha e ts)
     unfolding try
     tries x v alpha e ts i h = tries-at x v _ _ e ts i (a .candidate x v alpha h)
 

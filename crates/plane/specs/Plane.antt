@@ -4,11 +4,11 @@ use mathlib.Core.List.{[], _∷_}
 use Prim.Native.Nat.{ℕ}
 use lib.Ieee.{Float, neg, le, eq}
 use Rattle.num.specs.F64.{_⊕_, _⊖_, _⊗_, zero·}
-use Rattle.num.specs.Helpers.{absOf, maxOf, clampOf, isFinite, sumOf}
+use Rattle.num.specs.Helpers.{absOf, maxOf, clampOf, isFiniteOf, sumOf}
 use Rattle.descent.specs.Descent.{Problem}
 use Rattle.planar.specs.declared.Planar.{Planar}
 use Rattle.step.specs.declared.Move.{Move}
-use Rattle.step.specs.Step.{projectAt, heldOf, newtonOf, aloneOf}
+use Rattle.step.specs.Step.{projectAtOf, heldOf, newtonOf, aloneOf}
 
 pub record Spot : Type 0 where
   pub x : Float
@@ -23,7 +23,7 @@ pub record Course : Type 0 where
   pub turns : ℕ
 
 unfoldable pub projectedOf : Spot → Planar → Spot → Spot → Spot
-projectedOf s v low high = record { x = projectAt (s .x) (v .x) (low .x) (high .x); y = projectAt (s .y) (v .y) (low .y) (high .y) }
+projectedOf s v low high = record { x = projectAtOf (s .x) (v .x) (low .x) (high .x); y = projectAtOf (s .y) (v .y) (low .y) (high .y) }
 
 unfoldable pub normOf : Spot → Float
 normOf g = maxOf (absOf (g .x)) (absOf (g .y))
@@ -35,7 +35,7 @@ stepOf s g v low high =
 
 -- a direction that is not finite or not downhill gives way to steepest descent
 abbrev pub poor : Spot → Move → Bool
-poor g m = not (isFinite (m .mean) && isFinite (m .variance)) || le zero· (m .mean ⊗ g .x ⊕ m .variance ⊗ g .y)
+poor g m = not (isFiniteOf (m .mean) && isFiniteOf (m .variance)) || le zero· (m .mean ⊗ g .x ⊕ m .variance ⊗ g .y)
 
 unfoldable pub safeOf : Spot → Move → Move
 safeOf g m = cond (poor g m) (record { mean = neg (g .x); variance = neg (g .y) }) m

@@ -3,20 +3,20 @@ use mathlib.Core.Path.{_≡_, refl}
 use mathlib.Core.List.{[], _∷_}
 use lib.Ieee.{nan, add, sub, mul, div, neg, lt, le, eq, ne, ofBits, toBits, ofInt}
 use Rattle.num.specs.F64.{zero·, one·}
-use Rattle.num.specs.Helpers.{isFinite}
+use Rattle.num.specs.Helpers.{isFiniteOf}
 use Rattle.work.specs.declared.Ending.the-variants.{Domain}
 use Rattle.elementary.specs.Exp.{expOf}
 use Rattle.elementary.specs.Log.{logOf, logParts}
 use Rattle.elementary.specs.Log1p.{log1pOf}
 use Rattle.elementary.specs.Lgamma.{lgammaOf, lgammaByProduct, productOf, productFrom}
-use Rattle.tables.specs.Log.{logRow, logRows}
+use Rattle.tables.specs.Log.{logRowOf, logRows}
 use Rattle.factorial.specs.Factorial.{logFactorialOf}
 use Rattle.planar.specs.Planar.{noPlanar}
 use Rattle.exposure.specs.Rows.{eventsFrom, eventsOf}
-use Rattle.counts.specs.Share.{softplusOf, oddsOf, rowOf, risingFrom, risingOf, withRow}
+use Rattle.counts.specs.Share.{softplusOf, oddsAtOf, rowOf, risingFrom, risenOf, withRowOf}
 use Rattle.counts.specs.Rows.{finiteOf, rowsFrom, totalsOf}
-use Rattle.counts.specs.Objective.{valueOf}
+use Rattle.counts.specs.Objective.{evaluatedOf}
 
-pub counts-domain : valueOf zero· nan (1 ∷ []) (one· ∷ []) ≡ record { end = Domain 6; passes = 1; v = noPlanar }
-unfolding valueOf finiteOf totalsOf rowsFrom withRow rowOf risingOf risingFrom oddsOf softplusOf eventsOf eventsFrom isFinite expOf logOf log1pOf logParts logRow logRows logFactorialOf lgammaOf lgammaByProduct productOf productFrom add sub mul div neg lt le eq ne ofBits toBits ofInt
+pub counts-domain : evaluatedOf zero· nan (1 ∷ []) (one· ∷ []) ≡ record { end = Domain 6; passes = 1; v = noPlanar }
+unfolding evaluatedOf finiteOf totalsOf rowsFrom withRowOf rowOf risenOf risingFrom oddsAtOf softplusOf eventsOf eventsFrom isFiniteOf expOf logOf log1pOf logParts logRowOf logRows logFactorialOf lgammaOf lgammaByProduct productOf productFrom add sub mul div neg lt le eq ne ofBits toBits ofInt
 counts-domain = refl

@@ -7,15 +7,15 @@ use lib.Count.{leadingZeros}
 use lib.ListN.{replicate}
 use lib.Ieee.{Float, add, sub, mul, div, neg, lt, le, eq, ne, ofBits, ofInt, toBits}
 use Rattle.num.specs.F64.{bits}
-use Rattle.num.specs.Helpers.{absOf, isFinite, maxOf, minOf, clampOf, powiFrom, powiOf}
-use Rattle.finite.specs.Finite.{finiteFrom, allFinite}
+use Rattle.num.specs.Helpers.{absOf, isFiniteOf, maxOf, minOf, clampOf, powiFrom, powiOf}
+use Rattle.finite.specs.Finite.{finiteFrom, allFiniteOf}
 use Rattle.root.specs.Steps.{sqrtOf}
-use Rattle.tables.specs.Exp.{expRow, expRows}
-use Rattle.tables.specs.Log.{logRow, logRows}
-use Rattle.tables.specs.Erfc.{erfcRow, erfcRows}
+use Rattle.tables.specs.Exp.{expRowOf, expRows}
+use Rattle.tables.specs.Log.{logRowOf, logRows}
+use Rattle.tables.specs.Erfc.{erfcRowOf, erfcRows}
 use Rattle.elementary.specs.Exp.{expOf, expLow, expBelow, expAbove, expFinish, expFar}
 use Rattle.elementary.specs.Log.{logOf, logSmall, logParts}
-use Rattle.elementary.specs.Erfc.{erfcOf, erfcPos, erfcTail}
+use Rattle.elementary.specs.Erfc.{erfcOf, erfcPosOf, erfcTail}
 use Rattle.elementary.specs.Lgamma.{lgammaOf, lgammaBelowOne, lgammaByProduct, productOf, productFrom}
 use Rattle.factorial.specs.Factorial.{logFactorialOf}
 use Rattle.work.specs.declared.Ending.the-variants.{Answered, InvalidInput, WorkBudget}
@@ -25,7 +25,9 @@ use Rattle.normal.specs.Conditional.{combinedOf, conditionalOf}
 use Rattle.posterior.specs.Integrand as integrand
 use Rattle.coefficient.specs.Coefficient.{coefficientOf}
 use Rattle.row.specs.Share.{share}
-use Rattle.objective.specs.Litters as litters
+use Rattle.litters.specs.Valid.{validLitterOf, validFrom, validLittersOf}
+use Rattle.litters.specs.Groups.{ofGroupOf}
+use Rattle.objective.specs.Point as point
 use Rattle.objective.specs.Totals.{finiteTotals}
 use Rattle.objective.specs.Objective.{rows, objective}
 use Rattle.descent.specs.declared.Status.the-variants.{Converged}
@@ -33,7 +35,7 @@ use Rattle.work.specs.Through.{through}
 use Rattle.descent.specs.Descent.{descend}
 use Rattle.request.specs.declared.Request.{Request}
 use Rattle.fit.specs.declared.report.Fit.{Fit}
-use Rattle.request.specs.Request.{validMean, validSd, validMeans, validSds, validControls, ofGroup, twoEach, admits}
+use Rattle.request.specs.Request.{validMeanOf, validSdOf, validMeansOf, validSdsOf, validControlsOf, twoEachOf, admittedOf}
 use Rattle.step.specs.Step.{projectOf, normOf}
 use Rattle.fit.specs.Fit.{activeOf, sdsOf, fit, limitedFit, fitOf, refusedOf}
 
@@ -82,5 +84,5 @@ answer-a =
 -- four evaluations are enough; three give WorkBudget with count 3; no iterations are InvalidInput
 pub example-a-is :
     (fitOf (example-a 10 4) four-litters ≡ answer-a) × (fitOf (example-a 10 3) four-litters ≡ refusedOf WorkBudget 3) × (fitOf (example-a 0 4) four-litters ≡ refusedOf InvalidInput 0)
-unfolding fitOf limitedFit fit sdsOf activeOf projectOf normOf admits twoEach ofGroup validControls validSds validMeans validSd validMean through descend objective rows finiteTotals allFinite finiteFrom litters.validPoint litters.validVariance litters.validMean litters.validLitters litters.validFrom litters.validLitter share coefficientOf logFactorialOf integrand.aloneOf integrand.atOf integrand.integrandOf conditionalOf combinedOf normalOf normalCentre _>>=_ metered lgammaOf lgammaByProduct lgammaBelowOne productOf productFrom erfcOf erfcPos erfcTail erfcRow erfcRows logOf logParts logSmall logRow logRows expOf expLow expBelow expAbove expFinish expFar expRow expRows sqrtOf absOf isFinite maxOf minOf clampOf powiOf powiFrom leadingZeros toBits add sub mul div neg lt le eq ne ofBits ofInt
+unfolding fitOf limitedFit fit sdsOf activeOf projectOf normOf admittedOf twoEachOf ofGroupOf validControlsOf validSdsOf validMeansOf validSdOf validMeanOf through descend objective rows finiteTotals allFiniteOf finiteFrom point.validPointOf point.validVarianceOf point.validMeanOf validLittersOf validFrom validLitterOf share coefficientOf logFactorialOf integrand.aloneOf integrand.atOf integrand.integrandOf conditionalOf combinedOf normalOf normalCentre _>>=_ metered lgammaOf lgammaByProduct lgammaBelowOne productOf productFrom erfcOf erfcPosOf erfcTail erfcRowOf erfcRows logOf logParts logSmall logRowOf logRows expOf expLow expBelow expAbove expFinish expFar expRowOf expRows sqrtOf absOf isFiniteOf maxOf minOf clampOf powiOf powiFrom leadingZeros toBits add sub mul div neg lt le eq ne ofBits ofInt
 example-a-is = (refl, refl, refl)

@@ -1,4 +1,4 @@
--- No second answer meets a contract over a text: what is read by a form, a request, a rendering, an answer, each with its lent buffer.
+-- No second answer meets a contract over a text: what is read by a template, a request, a rendering, an answer, each with its lent buffer.
 use mathlib.Core.Path.{_≡_, refl, sym, ap, _∙_}
 use mathlib.Core.List.{List}
 use Prim.Native.Nat.{ℕ, _+_, _-_, _≤_, _<_}
@@ -9,17 +9,17 @@ use lib.Dec.{ltb}
 use lib.ListN.{length, take, drop, length-drop}
 use Rattle.num.specs.F64.{bitsOf}
 use Rattle.fit.specs.declared.report.Fit.{Fit}
-use Rattle.form.specs.Digits.{digits}
-use Rattle.form.specs.Form.{render}
-use Rattle.form.specs.Field.{isDigit, isHex, hexValue, Field, found, departs}
-use Rattle.form.specs.Read.{feeds, read}
-use Rattle.form.specs.declared.token.Token.{Token}
-use Rattle.form.specs.declared.token.Token.the-variants.{Value, Departs}
-use Rattle.form.specs.Says.{Says, valuesOf}
+use Rattle.template.specs.Digits.{digits}
+use Rattle.template.specs.Template.{render}
+use Rattle.template.specs.Field.{isDigitOf, isHexOf, hexValueOf, Field, found, departs}
+use Rattle.template.specs.Read.{feeds, read}
+use Rattle.template.specs.declared.token.Token.{Token}
+use Rattle.template.specs.declared.token.Token.the-variants.{Value, Departs}
+use Rattle.template.specs.Says.{Says, valuesOf}
 use Rattle.read.specs.Request.{readRequest}
 use Rattle.read.specs.Rows.{fillRequest, askingOf}
 use Rattle.parts.specs.declared.by_value.Reader.{Reader}
-use Rattle.parts.specs.ByValue.{takenOf, finishedOf}
+use Rattle.parts.specs.ByValue.{partOf, finishedOf}
 use Rattle.render.specs.Written.{written}
 use Rattle.print.specs.Answer.{refusalText, fitText}
 use Rattle.print.specs.Room.{room}
@@ -47,22 +47,22 @@ of-token text f (Value v i) Departs a b = absurd (not-found v (drop i text) (sym
 of-token text f Departs (Value w j) a b = absurd (not-found w (drop j text) (sym a ∙ b .0))
 of-token text f Departs Departs a b = refl
 
-pub of-form : One1 isDigit × One1 isHex × One1 hexValue × One1 (λ c. c - 48) × One4 (λ (text : List ℕ) (start : ℕ) (form : List ℕ) (first : ℕ). valuesOf text (first + feeds form) (read form first (drop start text)))
-of-form = (one1 _, one1 _, one1 _, one1 _, one4 _)
+pub of-template : One1 isDigitOf × One1 isHexOf × One1 hexValueOf × One1 (λ c. c - 48) × One4 (λ (text : List ℕ) (start : ℕ) (template : List ℕ) (first : ℕ). valuesOf text (first + feeds template) (read template first (drop start text)))
+of-template = (one1 _, one1 _, one1 _, one1 _, one4 _)
 
 -- the answer, and the litters' buffer
 pub of-read : One1 (λ (text : List ℕ). askingOf 0 (readRequest text)) × One2 fillRequest
 of-read = (one1 _, one2 _)
 
 -- the reader of parts by value: the reader after a part and after finishing, and what is read of what it keeps
-pub of-parts : One2 takenOf × One1 finishedOf × One1 (λ (r : Reader). askingOf 0 (readRequest (take (r .n) (r .bytes)))) × One2 (λ (b : List ℕ) (r : Reader). fillRequest b (take (r .n) (r .bytes)))
+pub of-parts : One2 partOf × One1 finishedOf × One1 (λ (r : Reader). askingOf 0 (readRequest (take (r .n) (r .bytes)))) × One2 (λ (b : List ℕ) (r : Reader). fillRequest b (take (r .n) (r .bytes)))
 of-parts = (one2 _, one1 _, one1 _, one2 _)
 
 -- of `digits`, `text` and `put` the place after, and the buffer
 pub of-render :
     One2 (λ (at k : ℕ). at + k) × One5 (λ (base k n : ℕ) (out : List ℕ) (at : ℕ). written out at (digits base k n)) ×
     One2 (λ (s : List ℕ) (at : ℕ). at + length s) × One3 written ×
-    One3 (λ (form values : List ℕ) (at : ℕ). at + length (render form values)) × One4 (λ (form values out : List ℕ) (at : ℕ). written out at (render form values))
+    One3 (λ (template values : List ℕ) (at : ℕ). at + length (render template values)) × One4 (λ (template values out : List ℕ) (at : ℕ). written out at (render template values))
 of-render = (one2 _, one5 _, one2 _, one3 _, one3 _, one4 _)
 
 pub of-print :

@@ -18,8 +18,8 @@ pub data Eval : Type 0 where
   inside : (litter successes total : ℕ) (mean sd z : Float) → Eval
   alone : (litter successes total : ℕ) (mean : Float) → Eval
 
-abbrev pub pointOf : Float → Float → ConditionalLog → Point
-pointOf sd z c =
+abbrev pub weighedOf : Float → Float → ConditionalLog → Point
+weighedOf sd z c =
     record {
       log = c .log ⊖ half· ⊗ z ⊗ z ⊖ half· ⊗ log-two-pi;
       slope = sd ⊗ c .score ⊖ z;
@@ -28,7 +28,7 @@ pointOf sd z c =
     }
 
 unfoldable pub integrandOf : ℕ → ℕ → Float → Float → Float → Point
-integrandOf successes total mean sd z = pointOf sd z (conditionalOf (mean ⊕ sd ⊗ z) successes total)
+integrandOf successes total mean sd z = weighedOf sd z (conditionalOf (mean ⊕ sd ⊗ z) successes total)
 
 -- the conditional as it stands
 unfoldable pub aloneOf : ℕ → ℕ → Float → Point

@@ -1,3 +1,5 @@
 pub mod Side
 pub mod Integrand
 pub mod Lent
+pub mod Number
+pub mod Range

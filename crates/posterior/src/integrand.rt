@@ -2,7 +2,7 @@
 use work::Ending;
 use work::QuadratureEvaluations;
 ghost use mathlib.Core.Path.{_≡_};
-ghost use Rattle.posterior.specs.Integrand.{pointOf, integrandOf, atOf};
+ghost use Rattle.posterior.specs.Integrand.{weighedOf, integrandOf, atOf};
 
 const LOG_TWO_PI: f64 = 1.8378770664093453;
 
@@ -32,7 +32,7 @@ pub struct At {
 }
 
 fn weighed(sd: f64, z: f64, c: normal::ConditionalLog) -> Point
-    ensures { λ r. ⌜ r ≡ pointOf sd z c ⌝ }
+    ensures { λ r. ⌜ r ≡ weighedOf sd z c ⌝ }
 {
     let moments = c.moments;
     Point {

@@ -13,7 +13,7 @@ use Rattle.num.specs.F64.{bitsOf}
 use Rattle.descent.specs.declared.Status.{Status}
 use Rattle.work.specs.Ended.{isRefused, numberOf, reasonOf}
 use Rattle.fit.specs.declared.report.Fit.{Fit}
-use Rattle.form.specs.Form.{ascii, render}
+use Rattle.template.specs.Template.{ascii, render}
 use Rattle.render.specs.Width.{length-render}
 use Rattle.render.specs.Written.{written}
 use Rattle.render.specs.WrittenLaws.{written-append}

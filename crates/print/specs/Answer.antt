@@ -9,7 +9,7 @@ use Rattle.work.specs.Ended.{isRefused, numberOf, reasonOf}
 use Rattle.descent.specs.declared.Status.{Status}
 use Rattle.descent.specs.declared.Status.the-variants.{NoStatus, Converged, EvaluationLimit, IterationLimit, LineSearchFailed}
 use Rattle.fit.specs.declared.report.Fit.{Fit}
-use Rattle.form.specs.Form.{ascii, render}
+use Rattle.template.specs.Template.{ascii, render}
 
 -- number, count, and the reason or the line
 unfoldable pub refusalText : ℕ → ℕ → ℕ → List ℕ

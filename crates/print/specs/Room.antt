@@ -10,7 +10,7 @@ use Rattle.work.specs.Ended.{isRefused, numberOf, reasonOf}
 use Rattle.descent.specs.declared.Status.{Status}
 use Rattle.descent.specs.declared.Status.the-variants.{NoStatus, Converged, EvaluationLimit, IterationLimit, LineSearchFailed}
 use Rattle.fit.specs.declared.report.Fit.{Fit}
-use Rattle.form.specs.Form.{ascii}
+use Rattle.template.specs.Template.{ascii}
 use Rattle.render.specs.Width.{width, length-render}
 use Rattle.print.specs.Answer.{refusalText, statusText, report, reportValues, activeText, reportText, fitText}
 

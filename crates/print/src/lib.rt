@@ -42,7 +42,7 @@ fn status(s: Status, out: &mut [u8], at: usize) -> usize
     }
 }
 
-// The SDs stand twice, as in the form.
+// The SDs stand twice, as in the template.
 fn values(f: Fit) -> [u64; 14]
     ensures { λ r. ⌜ r ≡ reportValues f ⌝ }
 {

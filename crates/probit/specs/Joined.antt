@@ -8,7 +8,7 @@ use lib.ListN.{length, take, getD, set}
 use Rattle.render.specs.Written.{written}
 use Rattle.print.specs.Room.{room}
 use Rattle.text.specs.Answer.{answerTo, answerText}
-use Rattle.parts.specs.Lent.{sized}
+use Rattle.parts.specs.Lent.{isSizedOf}
 use Rattle.parts.specs.Joined.{joined, readerAfter}
 use Rattle.parts.specs.Joined.{in-parts as reads}
 use Rattle.parts.specs.JoinedLent.{stateAfter}
@@ -23,8 +23,8 @@ pub record Answered : Type 0 where
 abbrev pub answered : ℕ → List ℕ → List ℕ → Answered
 answered value counts out = record { value = value; counts = counts; out = out }
 
-unfoldable pub answerRoom : ℕ → ℕ → ℕ → Bool
-answerRoom held counts out = sized held counts && leb room out
+unfoldable pub answerRoomOf : ℕ → ℕ → ℕ → Bool
+answerRoomOf held counts out = isSizedOf held counts && leb room out
 
 -- the answer to a text: its length, and its bytes; the state is finished
 abbrev pub answers : List ℕ → List ℕ → List ℕ → Answered
@@ -32,7 +32,7 @@ answers t c o = answered (length t) (set c 1 1) (written o 0 t)
 
 -- 0 for a wrong size, or a short buffer: then nothing is written
 unfoldable pub answerIn : List ℕ → List ℕ → List ℕ → Answered
-answerIn b c o = cond (answerRoom (length b) (length c) (length o)) (answers (answerText (take (getD c 0 0) b)) c o) (answered 0 c o)
+answerIn b c o = cond (answerRoomOf (length b) (length c) (length o)) (answers (answerText (take (getD c 0 0) b)) c o) (answered 0 c o)
 
 -- ---- any list of parts
 

@@ -1,11 +1,7 @@
 // The functions for C and Rust, in the static library. include/probit.h says how to call each.
 use fit::Fit;
 use fit::report::Seen;
-use request::Bounds;
 use request::Request;
-use work::FitEvaluations;
-use work::Iterations;
-use work::QuadratureEvaluations;
 ghost use mathlib.Core.Path.{_≡_};
 ghost use mathlib.Core.List.{[]};
 ghost use Prim.Native.Nat.{_≤_, _<_};
@@ -25,39 +21,18 @@ ghost use Rattle.claim.specs.Give.{vettedGiven};
 ghost use Rattle.vet.specs.Vet.{vetOf};
 ghost use Rattle.counts.specs.Objective.{objectiveOf as countsObjective};
 ghost use Rattle.counts_fit.specs.Fit.{fitOf as countsFit};
-ghost use Rattle.counts_host.specs.Host.{given as lentBack, objectiveGiven as countsObjectiveGiven, fitGiven as countsFitGiven, requestOf as countsRequest};
+ghost use Rattle.counts_host.specs.Host.{objectiveGiven as countsObjectiveGiven, fitGiven as countsFitGiven, requestOf as countsRequest};
 ghost use Rattle.objective.specs.Coordinates.{pointOf};
-ghost use Rattle.buffers.specs.Buffers.{given, fitGiven, objectiveGiven, summaryGiven};
-ghost use Rattle.parts.specs.Lent.{lent, told, partIn, finishIn};
+ghost use Rattle.buffers.specs.Buffers.{fitGiven, objectiveGiven, summaryGiven};
+ghost use Rattle.store.specs.Given.{given};
+ghost use Rattle.parts.specs.Lent.{lent, told, partInOf, finishInOf};
 ghost use Rattle.probit.specs.Joined.{answered, answerIn};
-
-fn request(b: &[f64], tolerance: f64, evaluations: u64, iterations: u64, quadrature: u64) -> Request
-    requires { ⌜ length (now b) ≡ 12 ⌝ }
-    ensures { λ r. ⌜ r ≡ requestOf (now (b .entry)) tolerance evaluations iterations quadrature ⌝ }
-{
-    Request {
-        mean: Bounds {
-            low: [b[0], b[3]],
-            high: [b[1], b[4]],
-            start: [b[2], b[5]],
-        },
-        sd: Bounds {
-            low: [b[6], b[9]],
-            high: [b[7], b[10]],
-            start: [b[8], b[11]],
-        },
-        evaluations: FitEvaluations(evaluations),
-        iterations: Iterations(iterations),
-        quadrature: QuadratureEvaluations(quadrature),
-        tolerance,
-    }
-}
 
 // So the litters of a run that is too long are not walked along.
 fn fitted(r: Request, litters: &[u32]) -> Fit
     ensures { λ f. ⌜ (f ≡ fitOf r (now (litters .entry))) × (now (litters .exit) ≡ now (litters .entry)) ⌝ }
 {
-    let k = litters::handed_on(litters.len());
+    let k = litters::table::handed_on(litters.len());
     fit::fit_probit_normal_binomial(r, &litters[..k])
 }
 
@@ -79,14 +54,14 @@ pub extern "C" fn probit_fit(
     if !buffers::fit_room(bounds.len(), numbers.len(), counts.len()) {
         return 1;
     }
-    let r = request(bounds, tolerance, evaluations, iterations, quadrature);
+    let r = request::requested(bounds, tolerance, evaluations, iterations, quadrature);
     buffers::put_fit(fitted(r, litters), numbers, counts)
 }
 
 fn watched(r: Request, litters: &[u32], number: u64) -> Seen
     ensures { λ s. ⌜ (s ≡ watchedOf r (now (litters .entry)) number) × (now (litters .exit) ≡ now (litters .entry)) ⌝ }
 {
-    let k = litters::handed_on(litters.len());
+    let k = litters::table::handed_on(litters.len());
     fit::report::fit_watched(r, &litters[..k], number)
 }
 
@@ -110,7 +85,7 @@ pub extern "C" fn probit_why(
     if !explain::why_room(bounds.len(), numbers.len(), counts.len(), reasons.len()) {
         return 1;
     }
-    let r = request(bounds, tolerance, evaluations, iterations, quadrature);
+    let r = request::requested(bounds, tolerance, evaluations, iterations, quadrature);
     let s = watched(r, litters, number);
     explain::put_why(s, numbers, counts, reasons)
 }
@@ -134,7 +109,7 @@ pub extern "C" fn probit_vet(
     if !claim::give::vet_room(bounds.len(), claimed.len(), numbers.len(), counts.len()) {
         return 1;
     }
-    let r = request(bounds, tolerance, evaluations, iterations, quadrature);
+    let r = request::requested(bounds, tolerance, evaluations, iterations, quadrature);
     vet_host::vet_in(r, litters, claimed, numbers, counts)
 }
 
@@ -238,7 +213,7 @@ pub extern "C" fn probit_counts_objective(
     numbers: &mut [f64],
     counts: &mut [u64],
 ) -> u64
-    ensures { λ r. ⌜ lentBack r (now (numbers .exit)) (now (counts .exit)) ≡ countsObjectiveGiven (countsObjective shape rate (now (events .entry)) (now (exposures .entry))) (now (numbers .entry)) (now (counts .entry)) ⌝ }
+    ensures { λ r. ⌜ given r (now (numbers .exit)) (now (counts .exit)) ≡ countsObjectiveGiven (countsObjective shape rate (now (events .entry)) (now (exposures .entry))) (now (numbers .entry)) (now (counts .entry)) ⌝ }
     ensures { λ r. ⌜ (now (events .exit) ≡ now (events .entry)) × (now (exposures .exit) ≡ now (exposures .entry)) ⌝ }
 {
     counts_host::objective_in(shape, rate, events, exposures, numbers, counts)
@@ -256,7 +231,7 @@ pub extern "C" fn probit_counts_fit(
     numbers: &mut [f64],
     counts: &mut [u64],
 ) -> u64
-    ensures { λ r. ⌜ lentBack r (now (numbers .exit)) (now (counts .exit)) ≡ countsFitGiven (countsFit (countsRequest (now (bounds .entry)) tolerance evaluations iterations) (now (events .entry)) (now (exposures .entry))) (now (bounds .entry)) (now (numbers .entry)) (now (counts .entry)) ⌝ }
+    ensures { λ r. ⌜ given r (now (numbers .exit)) (now (counts .exit)) ≡ countsFitGiven (countsFit (countsRequest (now (bounds .entry)) tolerance evaluations iterations) (now (events .entry)) (now (exposures .entry))) (now (bounds .entry)) (now (numbers .entry)) (now (counts .entry)) ⌝ }
     ensures { λ r. ⌜ (now (bounds .exit) ≡ now (bounds .entry)) × (now (events .exit) ≡ now (events .entry)) × (now (exposures .exit) ≡ now (exposures .entry)) ⌝ }
 {
     counts_host::fit_in(
@@ -291,7 +266,7 @@ pub extern "C" fn probit_text(request: &[u8], out: &mut [u8]) -> usize
 // The state is lent: 8,193 bytes and two counts. Answers 0; 4 after finishing, 1 for another size, and then nothing is written.
 #[no_mangle]
 pub extern "C" fn probit_part(held: &mut [u8], counts: &mut [u64], bytes: &[u8]) -> u64
-    ensures { λ r. ⌜ lent r (now (held .exit)) (now (counts .exit)) ≡ partIn (now (held .entry)) (now (counts .entry)) (now (bytes .entry)) ⌝ }
+    ensures { λ r. ⌜ lent r (now (held .exit)) (now (counts .exit)) ≡ partInOf (now (held .entry)) (now (counts .entry)) (now (bytes .entry)) ⌝ }
 {
     parts::lent::part_in(held, counts, bytes)
 }
@@ -304,7 +279,7 @@ pub extern "C" fn probit_finish(
     request: &mut [u64],
     litters: &mut [u32],
 ) -> u64
-    ensures { λ r. ⌜ told r (now (counts .exit)) (now (request .exit)) (now (litters .exit)) ≡ finishIn (now (held .entry)) (now (counts .entry)) (now (request .entry)) (now (litters .entry)) ⌝ }
+    ensures { λ r. ⌜ told r (now (counts .exit)) (now (request .exit)) (now (litters .exit)) ≡ finishInOf (now (held .entry)) (now (counts .entry)) (now (request .entry)) (now (litters .entry)) ⌝ }
 {
     parts::lent::finish_in(held, counts, request, litters)
 }

@@ -7,7 +7,7 @@ ghost use Rattle.render.specs.Written.{written};
 ghost use Rattle.print.specs.Room.{room};
 ghost use Rattle.text.specs.Answer.{answerText};
 ghost use Rattle.parts.specs.ByValue.{finishedOf};
-ghost use Rattle.probit.specs.Joined.{answerRoom};
+ghost use Rattle.probit.specs.Joined.{answerRoomOf};
 
 pub struct Answered {
     pub reader: Reader,
@@ -24,7 +24,7 @@ pub fn answer_kept(buffer: &[u8], n: usize, out: &mut [u8]) -> usize
 }
 
 pub fn answer_room(held: usize, counts: usize, out: usize) -> bool
-    ensures { λ r. ⌜ r ≡ answerRoom held counts out ⌝ }
+    ensures { λ r. ⌜ r ≡ answerRoomOf held counts out ⌝ }
 {
     num::both(parts::lent::is_sized(held, counts), 512 <= out)
 }

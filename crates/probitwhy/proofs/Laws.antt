@@ -6,8 +6,8 @@ use Prim.Native.Nat.{ℕ, zero, suc, _+_}
 use borrow.Table.Steps.{cases}
 use lib.Dec.{ltb}
 use lib.ListN.{length, getD}
-use Rattle.form.specs.Read.{Reading, done, departsAt, read}
-use Rattle.litters.specs.Litters.{rowIn}
+use Rattle.template.specs.Read.{Reading, done, departsAt, read}
+use Rattle.litters.specs.Table.{rowIn}
 use Rattle.litters.specs.Kept.{row-length}
 use Rattle.read.specs.Request.{litter, head}
 use Rattle.read.specs.Rows.{putLitter, fillRow, fillRows, fillAfter, fillRequest}

@@ -1,11 +1,11 @@
 // Says why a fit took its steps. Reads one request from standard input until it ends; its argument is a trial's number. Writes the line of that trial, or without an argument the
 // line of each, a line of what stopped the fit, and the answer as probitfit writes it.
 use fit::report::Seen;
-use form::token::Token;
 use input::Read;
 use libc::STDERR_FILENO;
 use libc::STDOUT_FILENO;
 use request::Request;
+use template::token::Token;
 use why::Why;
 
 // The trial that is asked for, each of them, or an argument that is no number.
@@ -134,7 +134,7 @@ fn explained(asked: Asked, request: &[u8]) {
 
 // A count, as a request has it, and nothing after it.
 fn number(word: &[u8], end: usize) -> Asked {
-    match form::token::token_at(word, 0, 35) {
+    match template::token::token_at(word, 0, 35) {
         Token::Value(n, next) => {
             if next == end {
                 return Asked::One(n);

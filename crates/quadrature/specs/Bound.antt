@@ -10,7 +10,7 @@ use Rattle.posterior.specs.Integrand.{Eval}
 use Rattle.panel.specs.declared.Hump.{Hump}
 use Rattle.panel.specs.Panel.{noSums}
 use Rattle.panel.specs.Bound.{sides-at-most}
-use Rattle.quadrature.specs.Quadrature.{spoiledOf, refinementOf, accepted, rules}
+use Rattle.quadrature.specs.Quadrature.{spoiledOf, refinedOf, accepted, rules}
 
 -- the most that n rules make, the first of them with 2^k panels a side
 unfoldable pub rulesBound : ℕ → ℕ → ℕ
@@ -28,7 +28,7 @@ module _ (here : Float → Eval) (rule : List Pair) where
   unfolding rules rulesBound
   rules-at-most h zero k seen old = stops
   rules-at-most h (suc n) k seen old =
-      both (rulesBound n (k + 1)) (sides-at-most here rule h (2 ^ k)) (λ s. either (spoiledOf s) stops (either (seen && le (refinementOf s old) accepted) rets (rules-at-most h n (k + 1) true s)))
+      both (rulesBound n (k + 1)) (sides-at-most here rule h (2 ^ k)) (λ s. either (spoiledOf s) stops (either (seen && le (refinedOf s old) accepted) rets (rules-at-most h n (k + 1) true s)))
 
   -- all ten
   pub ten-at-most : (h : Hump) → AtMost 32736 (rules here rule h 10 0 false noSums)

@@ -10,7 +10,7 @@ use Rattle.legendre.specs.declared.Pair.{Pair}
 use Rattle.posterior.specs.Integrand.{Eval}
 use Rattle.panel.specs.declared.Hump.{Hump}
 use Rattle.panel.specs.Reasons.{sides-reasons}
-use Rattle.quadrature.specs.Quadrature.{spoiledOf, refinementOf, accepted, rules}
+use Rattle.quadrature.specs.Quadrature.{spoiledOf, refinedOf, accepted, rules}
 
 module _ (here : Float → Eval) (rule : List Pair) where
   pub rules-reasons : (h : Hump) (n k : ℕ) (seen : Bool) (old : List Float) → Stops (Reasoned 5) (rules here rule h n k seen old)
@@ -18,4 +18,4 @@ module _ (here : Float → Eval) (rule : List Pair) where
   rules-reasons h zero k seen old = refuses {r = domain 5} (lit≤ tt, lit≤ tt)
   rules-reasons h (suc n) k seen old =
       passed (sides-reasons (Reasoned 5) here rule h (2 ^ k))
-      (λ s. chosen (spoiledOf s) (refuses {r = domain 4} (lit≤ tt, lit≤ tt)) (chosen (seen && le (refinementOf s old) accepted) answers (rules-reasons h n (k + 1) true s)))
+      (λ s. chosen (spoiledOf s) (refuses {r = domain 4} (lit≤ tt, lit≤ tt)) (chosen (seen && le (refinedOf s old) accepted) answers (rules-reasons h n (k + 1) true s)))

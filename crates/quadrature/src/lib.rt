@@ -4,7 +4,7 @@ use panel::Hump;
 use posterior::integrand::Posterior;
 use work::Ending;
 ghost use mathlib.Core.Path.{_≡_};
-ghost use Rattle.quadrature.specs.Quadrature.{finiteOf, soundOf, spoiledOf, largerOf, refinementOf, integralOf};
+ghost use Rattle.quadrature.specs.Quadrature.{nothingOf, finiteRestOf, soundOf, spoiledOf, largerOf, refinedOf, integratedOf};
 
 pub struct Integral {
     pub end: Ending,
@@ -13,8 +13,19 @@ pub struct Integral {
     pub refinement: f64,
 }
 
+fn nothing(end: Ending, p: Posterior) -> Integral
+    ensures { λ r. ⌜ r ≡ nothingOf end p ⌝ }
+{
+    Integral {
+        end,
+        p,
+        sum: [0.0; 6],
+        refinement: 0.0,
+    }
+}
+
 fn finite_rest(sum: [f64; 6]) -> bool
-    ensures { λ r. ⌜ r ≡ finiteOf sum ⌝ }
+    ensures { λ r. ⌜ r ≡ finiteRestOf sum ⌝ }
 {
     let a = num::both(num::is_finite(sum[4]), num::is_finite(sum[5]));
     let b = num::both(num::is_finite(sum[3]), a);
@@ -48,7 +59,7 @@ fn larger(m: f64, total: f64, sum: f64, old: f64) -> f64
 }
 
 fn refined(sum: [f64; 6], old: [f64; 6]) -> f64
-    ensures { λ r. ⌜ r ≡ refinementOf sum old ⌝ }
+    ensures { λ r. ⌜ r ≡ refinedOf sum old ⌝ }
 {
     let a = larger(0.0, sum[0], sum[0], old[0]);
     let b = larger(a, sum[0], sum[1], old[1]);
@@ -59,7 +70,7 @@ fn refined(sum: [f64; 6], old: [f64; 6]) -> f64
 }
 
 pub fn integrated(p: Posterior, rule: [Pair; 16], h: Hump) -> Integral
-    ensures { λ r. ⌜ r ≡ integralOf p rule h ⌝ }
+    ensures { λ r. ⌜ r ≡ integratedOf p rule h ⌝ }
 {
     let mut q = p;
     let mut seen = false;
@@ -70,20 +81,10 @@ pub fn integrated(p: Posterior, rule: [Pair; 16], h: Hump) -> Integral
         q = r.p;
         let s = r.sum;
         if work::refused(end) {
-            return Integral {
-                end,
-                p: q,
-                sum: [0.0; 6],
-                refinement: 0.0,
-            };
+            return nothing(end, q);
         }
         if spoiled(s) {
-            return Integral {
-                end: Ending::Domain(4),
-                p: q,
-                sum: [0.0; 6],
-                refinement: 0.0,
-            };
+            return nothing(Ending::Domain(4), q);
         }
         let refinement = refined(s, old);
         if num::both(seen, refinement <= 1e-11) {
@@ -97,10 +98,5 @@ pub fn integrated(p: Posterior, rule: [Pair; 16], h: Hump) -> Integral
         seen = true;
         old = s;
     }
-    Integral {
-        end: Ending::Domain(5),
-        p: q,
-        sum: [0.0; 6],
-        refinement: 0.0,
-    }
+    nothing(Ending::Domain(5), q)
 }

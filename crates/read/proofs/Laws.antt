@@ -10,17 +10,17 @@ use lib.ListN.{length, getD, set, take, drop, length-drop}
 use lib.Seq.{getD-take, take-all}
 use borrow.Author.Tests.{eq-eqb, ne-eqb, lt-ltb, le-ltb, not-true, not-false}
 use Rattle.num.specs.Left.{left-one, left-none}
-use Rattle.form.specs.Form.{first, after, holes}
-use Rattle.form.specs.Read.{done, read}
-use Rattle.form.specs.declared.read.Values.{Values}
-use Rattle.form.specs.Says.{valuesOf, saidOf}
-use Rattle.form.specs.Said.{said, said-inside, said-sixteen}
-use Rattle.form.specs.BothWays.{rendered-read}
+use Rattle.template.specs.Template.{first, after, holes}
+use Rattle.template.specs.Read.{done, read}
+use Rattle.template.specs.declared.read.Values.{Values}
+use Rattle.template.specs.Says.{valuesOf, saidOf}
+use Rattle.template.specs.Said.{said, said-inside, said-sixteen}
+use Rattle.template.specs.BothWays.{rendered-read}
 use Rattle.read.specs.BothWays.{litter-plain, litter-below, nothing-left, something-left}
 use Rattle.read.specs.declared.Asking.{Asking}
 use Rattle.read.specs.declared.Lines.{Lines}
 use Rattle.read.specs.declared.Lines.the-variants.{Litters, Departs}
-use Rattle.read.specs.Request.{Asked, asked, form, head, litter, rows, withLitter, readLast, readRows, readRequest}
+use Rattle.read.specs.Request.{Asked, asked, form, head, litter, closing, withLitter, readLast, readRows, readRequest}
 use Rattle.read.specs.Rows.{putLitter, fillRows, fillRequest, heldOf, departedOf, askingOf, rowsSay}
 
 first-taken : (vs : List ℕ) → first (take 2 vs) ≡ getD vs 0 0
@@ -32,10 +32,10 @@ second-taken [] = refl
 second-taken (v ∷ []) = refl
 second-taken (v ∷ u ∷ vs) = refl
 
--- what the answers by the three forms say
-says-rows : (text : List ℕ) (at line after : ℕ) (r : Values) → r ≡ valuesOf text after (read rows line (drop at text)) → read rows line (drop at text) ≡ saidOf text 2 r
-unfolding holes rows
-says-rows text at line after r e = said rows text at line after r e
+-- what the answers by the three templates say
+says-rows : (text : List ℕ) (at line after : ℕ) (r : Values) → r ≡ valuesOf text after (read closing line (drop at text)) → read closing line (drop at text) ≡ saidOf text 2 r
+unfolding holes closing
+says-rows text at line after r e = said closing text at line after r e
 
 says-litter : (text : List ℕ) (at line after : ℕ) (r : Values) → r ≡ valuesOf text after (read litter line (drop at text)) → read litter line (drop at text) ≡ saidOf text 3 r
 unfolding holes litter
@@ -51,26 +51,26 @@ litter-inside text at line after r e = said-inside litter text at line after r e
 pub head-inside : (text : List ℕ) (after : ℕ) (r : Values) → r ≡ valuesOf text after (read head 1 text) → r .at ≤ length text
 head-inside text after r e = said-inside head text 0 1 after r e
 
-module _ (vs text : List ℕ) (line at start n after : ℕ) (r : Values) (w : r ≡ valuesOf text after (read rows line (drop at text))) where
-  says : read rows line (drop at text) ≡ saidOf text 2 r
+module _ (vs text : List ℕ) (line at start n after : ℕ) (r : Values) (w : r ≡ valuesOf text after (read closing line (drop at text))) where
+  says : read closing line (drop at text) ≡ saidOf text 2 r
   says = says-rows text at line after r w
 
-  pub last-departs : not (r .fits) ≡ true → departedOf line ≡ askingOf n (readLast vs line start n (read rows line (drop at text)))
+  pub last-departs : not (r .fits) ≡ true → departedOf line ≡ askingOf n (readLast vs line start n (read closing line (drop at text)))
   last-departs f = rw (says, not-true (r .fits) f)
 
   module _ (f : not (r .fits) ≡ false) where
-    pub last-miscounts : (getD (r .values) 0 0 ≡ n → ⊥) → departedOf line ≡ askingOf n (readLast vs line start n (read rows line (drop at text)))
+    pub last-miscounts : (getD (r .values) 0 0 ≡ n → ⊥) → departedOf line ≡ askingOf n (readLast vs line start n (read closing line (drop at text)))
     last-miscounts e = rw (says, not-false (r .fits) f, first-taken (r .values), ne-eqb (getD (r .values) 0 0) n e)
 
     module _ (e : getD (r .values) 0 0 ≡ n) where
-      pub last-misplaces : (getD (r .values) 1 0 ≡ start → ⊥) → departedOf line ≡ askingOf n (readLast vs line start n (read rows line (drop at text)))
+      pub last-misplaces : (getD (r .values) 1 0 ≡ start → ⊥) → departedOf line ≡ askingOf n (readLast vs line start n (read closing line (drop at text)))
       last-misplaces d = rw (says, not-false (r .fits) f, first-taken (r .values), second-taken (r .values), eq-eqb (getD (r .values) 0 0) n e, ne-eqb (getD (r .values) 1 0) start d)
 
       module _ (d : getD (r .values) 1 0 ≡ start) where
-        pub last-goes-on : r .at < length text → departedOf (line + 1) ≡ askingOf n (readLast vs line start n (read rows line (drop at text)))
+        pub last-goes-on : r .at < length text → departedOf (line + 1) ≡ askingOf n (readLast vs line start n (read closing line (drop at text)))
         last-goes-on h = rw (says, not-false (r .fits) f, first-taken (r .values), second-taken (r .values), eq-eqb (getD (r .values) 0 0) n e, eq-eqb (getD (r .values) 1 0) start d, something-left text (r .at) h)
 
-        pub last-ends : length text ≤ r .at → heldOf vs n ≡ askingOf n (readLast vs line start n (read rows line (drop at text)))
+        pub last-ends : length text ≤ r .at → heldOf vs n ≡ askingOf n (readLast vs line start n (read closing line (drop at text)))
         last-ends h = rw (says, not-false (r .fits) f, first-taken (r .values), second-taken (r .values), eq-eqb (getD (r .values) 0 0) n e, eq-eqb (getD (r .values) 1 0) start d, nothing-left text (r .at) h, add-zero n)
 
 -- ---- a litter line
@@ -113,7 +113,7 @@ module _ (text : List ℕ) (at n after : ℕ) (r : Values) (w : r ≡ valuesOf t
     row-filled b h = rw (left-one 8192 n h, read-litter) (ap (λ x. fillRows (8192 - (n + 1)) (n + 1) x (drop (r .at) text)) (put-taken b (r .values) n))
 
   module _ (f : not (r .fits) ≡ true) where
-    pub row-last : (vs : List ℕ) (start : ℕ) → n < 8192 → readRows (8192 - n) vs start n (drop at text) ≡ readLast vs (8 + n) start n (read rows (8 + n) (drop at text))
+    pub row-last : (vs : List ℕ) (start : ℕ) → n < 8192 → readRows (8192 - n) vs start n (drop at text) ≡ readLast vs (8 + n) start n (read closing (8 + n) (drop at text))
     unfolding readRows
     row-last vs start h = rw (left-one 8192 n h, says-litter text at (8 + n) after r w, not-true (r .fits) f)
 

@@ -11,15 +11,15 @@ use borrow.Table.Steps.{cases}
 use lib.Dec.{T, ltb, eqb, lit≤}
 use lib.ListN.{length, length-append, getD, drop, drop-of-length-le}
 use lib.Seq.{drop-cons}
-use Rattle.form.specs.Form.{first, after, render, holes}
-use Rattle.form.specs.Field.{readByte}
-use Rattle.form.specs.Read.{Reading, done, departsAt, readField, read}
-use Rattle.form.specs.Sound.{sound, plain, limits, Holds, most}
-use Rattle.form.specs.Spells.{Spells}
-use Rattle.form.specs.BothWays.{holds-below, spelled-read, read-spelled, rendered-read, read-rendered, render-spells, spells-least, spells-most}
-use Rattle.read.specs.Request.{head, litter, rows, Asked, asked, form, renderLitters, renderRequest, isEmpty, withLitter, readLast, readRow, readRows, readAfter, readRequest}
+use Rattle.template.specs.Template.{first, after, render, holes}
+use Rattle.template.specs.Field.{readByte}
+use Rattle.template.specs.Read.{Reading, done, departsAt, readField, read}
+use Rattle.template.specs.Sound.{sound, plain, limits, Holds, most}
+use Rattle.template.specs.Spells.{Spells}
+use Rattle.template.specs.BothWays.{holds-below, spelled-read, read-spelled, rendered-read, read-rendered, render-spells, spells-least, spells-most}
+use Rattle.read.specs.Request.{head, litter, closing, Asked, asked, form, renderLitters, renderRequest, isEmpty, withLitter, readLast, readRow, readRows, readAfter, readRequest}
 
--- ---- the three forms
+-- ---- the three templates
 
 pub head-sound : T (sound head)
 unfolding sound head
@@ -29,18 +29,18 @@ pub litter-sound : T (sound litter)
 unfolding sound litter
 litter-sound = tt
 
-pub rows-sound : T (sound rows)
-unfolding sound rows
-rows-sound = tt
+pub closing-sound : T (sound closing)
+unfolding sound closing
+closing-sound = tt
 
 -- the lines after the head have counts alone
 pub litter-plain : T (plain litter)
 unfolding plain litter
 litter-plain = tt
 
-pub rows-plain : T (plain rows)
-unfolding plain rows
-rows-plain = tt
+pub closing-plain : T (plain closing)
+unfolding plain closing
+closing-plain = tt
 
 -- What a request may ask: sixteen values that fit the head, and three for each litter.
 abbrev pub EachHolds : List (List ℕ) → Type 0
@@ -53,7 +53,7 @@ pub record Asks (vs : List ℕ) (ls : List (List ℕ)) : Type 0 where
 
 -- the last line of a request with n litters, the first at byte `start`
 abbrev pub lastLine : ℕ → ℕ → List ℕ
-lastLine n start = render rows (n ∷ start ∷ [])
+lastLine n start = render closing (n ∷ start ∷ [])
 
 -- A text spells a request: its head with the values vs, in any spelling; then a line for each litter, and the last with their number and the byte at which the first starts.
 pub record SpellsRequest (vs : List ℕ) (ls : List (List ℕ)) (text : List ℕ) : Type 0 where
@@ -74,12 +74,12 @@ work-below vs b = (holds-below head vs 12 b (lit≤ tt), holds-below head vs 13 
 -- ---- the lines after the head
 
 -- the last line is no litter's: its first byte is another
-pub no-litter : (line : ℕ) (us t : List ℕ) → read litter line (render rows us ++ t) ≡ departsAt line
-unfolding read readField readByte render litter rows
+pub no-litter : (line : ℕ) (us t : List ℕ) → read litter line (render closing us ++ t) ≡ departsAt line
+unfolding read readField readByte render litter closing
 no-litter line us t = refl
 
-pub last-holds : (n start : ℕ) → n < 2 ^ 32 → start < 2 ^ 32 → Holds rows (n ∷ start ∷ [])
-unfolding limits rows
+pub last-holds : (n start : ℕ) → n < 2 ^ 32 → start < 2 ^ 32 → Holds closing (n ∷ start ∷ [])
+unfolding limits closing
 last-holds n start h g = (h, (g, tt))
 
 rows-read-back :
@@ -89,8 +89,8 @@ unfolding readRows renderLitters
 rows-read-back zero vs start n ls a h g b = absurd (omega arith)
 rows-read-back (suc k) vs start n [] a h g b =
     let us = n ∷ start ∷ [] in
-    let m = append-nil (render rows us) in
-    let r = read-rendered rows us [] (8 + n) rows-sound (last-holds n start (omega arith) b) in
+    let m = append-nil (render closing us) in
+    let r = read-rendered closing us [] (8 + n) closing-sound (last-holds n start (omega arith) b) in
     rw (add-zero n, ← m, no-litter (8 + n) us [], r, eq-eqb n n refl, eq-eqb start start refl)
 rows-read-back (suc k) vs start n (l ∷ ls) a h g b =
     let m : n + suc (length ls) ≡ n + 1 + length ls = omega arith in
@@ -99,15 +99,15 @@ rows-read-back (suc k) vs start n (l ∷ ls) a h g b =
     (m, append-assoc (render litter l) (renderLitters ls) (lastLine (n + 1 + length ls) start), read-rendered litter l rest (8 + n) litter-sound (a .0), rows-read-back k vs start (n + 1) ls (a .1) (omega arith) (omega arith) b)
 
 -- neither is empty
-forms-some : (1 ≤ length head) × (1 ≤ length litter)
+templates-some : (1 ≤ length head) × (1 ≤ length litter)
 unfolding head litter
-forms-some = (lit≤ tt, lit≤ tt)
+templates-some = (lit≤ tt, lit≤ tt)
 
 pub head-some : (vs h : List ℕ) → Spells head vs h → 1 ≤ length h
-head-some vs h k = omega (arith, forms-some, spells-least k)
+head-some vs h k = omega (arith, templates-some, spells-least k)
 
 pub litter-some : (l : List ℕ) → Holds litter l → 1 ≤ length (render litter l)
-litter-some l b = omega (arith, forms-some, spells-least (render-spells litter l b))
+litter-some l b = omega (arith, templates-some, spells-least (render-spells litter l b))
 
 pub litters-some : (ls : List (List ℕ)) → EachHolds ls → length ls ≤ length (renderLitters ls)
 unfolding renderLitters
@@ -143,8 +143,8 @@ rendering-spells vs ls a = record { top = render head vs; heads = render-spells 
 
 -- ---- how long a request is
 
-most-are : (most head ≡ 349) × (most litter ≡ 40) × (most rows ≡ 30)
-unfolding most head litter rows
+most-are : (most head ≡ 349) × (most litter ≡ 40) × (most closing ≡ 30)
+unfolding most head litter closing
 most-are = (refl, refl, refl)
 
 litters-most : (ls : List (List ℕ)) → EachHolds ls → length (renderLitters ls) ≤ 40 * length ls
@@ -160,8 +160,8 @@ short-enough text vs ls a h =
     let m = most-are in
     let p = spells-most (a .heads) in
     let q = litters-most ls (a .litters) in
-    let r = spells-most (render-spells rows us (last-holds (length ls) (length top) (omega arith) (omega arith))) in
-    rw (a .is, parts-long top (renderLitters ls) (render rows us)) (omega arith)
+    let r = spells-most (render-spells closing us (last-holds (length ls) (length top) (omega arith) (omega arith))) in
+    rw (a .is, parts-long top (renderLitters ls) (render closing us)) (omega arith)
 
 -- ---- what is read is spelled
 
@@ -174,20 +174,20 @@ pub record RowsAre (vs : List ℕ) (start n : ℕ) (s us : List ℕ) (ls : List 
   pub each : EachHolds ls
   pub text : s ≡ renderLitters ls ++ lastLine (n + length ls) start
 
-last-values : (ws : List ℕ) (n start : ℕ) → Holds rows ws → first ws ≡ n → first (after ws) ≡ start → ws ≡ n ∷ start ∷ []
-unfolding limits rows
+last-values : (ws : List ℕ) (n start : ℕ) → Holds closing ws → first ws ≡ n → first (after ws) ≡ start → ws ≡ n ∷ start ∷ []
+unfolding limits closing
 last-values [] n start b p q = absurd b
 last-values (w ∷ []) n start b p q = absurd (b .1)
 last-values (w ∷ u ∷ []) n start b p q = rw (p, q)
 last-values (w ∷ u ∷ x ∷ ws) n start b p q = absurd (b .1 .1)
 
 -- a last line with the right numbers
-pub last-right : (line start n : ℕ) (s ws t : List ℕ) → read rows line s ≡ done ws t → (eqb (first ws) n && eqb (first (after ws)) start) ≡ true → s ≡ lastLine n start ++ t
+pub last-right : (line start n : ℕ) (s ws t : List ℕ) → read closing line s ≡ done ws t → (eqb (first ws) n && eqb (first (after ws)) start) ≡ true → s ≡ lastLine n start ++ t
 last-right line start n s ws t e b =
-    let r = rendered-read rows s ws t line rows-plain e in
+    let r = rendered-read closing s ws t line closing-plain e in
     let q = and-eq-true-iff (eqb (first ws) n) (eqb (first (after ws)) start) .0 b in
     let w = last-values ws n start (r .1) (eqb-true (first ws) n (q .0)) (eqb-true (first (after ws)) start (q .1)) in
-    r .0 ∙ ap (λ x. render rows x ++ t) w
+    r .0 ∙ ap (λ x. render closing x ++ t) w
 
 pub is-empty : (t : List ℕ) → isEmpty t ≡ true → t ≡ []
 is-empty [] h = refl
@@ -199,7 +199,7 @@ nothing-left l i h = rw (drop-of-length-le l h)
 pub something-left : (l : List ℕ) (i : ℕ) → i < length l → isEmpty (drop i l) ≡ false
 something-left l i h = rw (drop-cons l i 0 h)
 
-last-read-is : (vs : List ℕ) (line start n : ℕ) (s us : List ℕ) (ls : List (List ℕ)) (r : Reading) → read rows line s ≡ r → readLast vs line start n r ≡ asked us ls → RowsAre vs start n s us ls
+last-read-is : (vs : List ℕ) (line start n : ℕ) (s us : List ℕ) (ls : List (List ℕ)) (r : Reading) → read closing line s ≡ r → readLast vs line start n r ≡ asked us ls → RowsAre vs start n s us ls
 unfolding renderLitters
 last-read-is vs line start n s us ls (departsAt k) e f = absurd (not-asked line us ls f)
 last-read-is vs line start n s us ls (done ws t) e f =
@@ -237,7 +237,7 @@ rows-read-is (suc k) vs start n s us ls e = by-line (rows-read-is k vs start (n 
 
     by-line : RowsReadIs k vs start (n + 1) → (r : Reading) → read litter (8 + n) s ≡ r → readRow vs (8 + n) start n s r (readRows k vs start (n + 1)) ≡ asked us ls → RowsAre vs start n s us ls
     by-line ih (done l t) e₁ e₂ = by-rest ih l t (readRows k vs start (n + 1) t) e₁ refl e₂
-    by-line ih (departsAt x) e₁ e₂ = last-read-is vs (8 + n) start n s us ls (read rows (8 + n) s) refl e₂
+    by-line ih (departsAt x) e₁ e₂ = last-read-is vs (8 + n) start n s us ls (read closing (8 + n) s) refl e₂
 
 -- What is read spells what it asks.
 pub read-is-spelled : (text vs : List ℕ) (ls : List (List ℕ)) → readRequest text ≡ asked vs ls → SpellsRequest vs ls text

@@ -10,14 +10,14 @@ use borrow.Author.Tests.{ltb-true, ltb-false, lt-ltb, le-ltb, eq-eqb}
 use borrow.Table.Steps.{cases}
 use lib.Dec.{ltb, eqb}
 use lib.ListN.{length, length-append}
-use Rattle.form.specs.Form.{first, after, render}
-use Rattle.form.specs.Read.{Reading, done, departsAt, read}
-use Rattle.form.specs.Sound.{Holds}
-use Rattle.form.specs.Spells.{Spells}
-use Rattle.form.specs.BothWays.{spelled-read, rendered-read, read-rendered, not-rendered}
-use Rattle.form.specs.Departure.{Departs, departs-there, there-departs}
-use Rattle.read.specs.Request.{head, litter, rows, Asked, asked, form, renderLitters, isEmpty, withLitter, readLast, readRow, readRows, readAfter, readRequest}
-use Rattle.read.specs.BothWays.{head-sound, litter-sound, rows-sound, litter-plain, EachHolds, lastLine, no-litter, last-holds, last-right, head-some, litter-some, parts-long, litters-some, after-head, not-asked}
+use Rattle.template.specs.Template.{first, after, render}
+use Rattle.template.specs.Read.{Reading, done, departsAt, read}
+use Rattle.template.specs.Sound.{Holds}
+use Rattle.template.specs.Spells.{Spells}
+use Rattle.template.specs.BothWays.{spelled-read, rendered-read, read-rendered, not-rendered}
+use Rattle.template.specs.Departure.{Departs, departs-there, there-departs}
+use Rattle.read.specs.Request.{head, litter, closing, Asked, asked, form, renderLitters, isEmpty, withLitter, readLast, readRow, readRows, readAfter, readRequest}
+use Rattle.read.specs.BothWays.{head-sound, litter-sound, closing-sound, litter-plain, EachHolds, lastLine, no-litter, last-holds, last-right, head-some, litter-some, parts-long, litters-some, after-head, not-asked}
 
 -- no litter's line stands at t; nor does the last line of n litters
 abbrev pub NoLitter : List ℕ → Type 0
@@ -45,8 +45,8 @@ some-more [] e = absurd (true≢false e)
 some-more (c ∷ t) e = refl
 
 last-departs :
-    (vs : List ℕ) (start n : ℕ) (t : List ℕ) (k : ℕ) (r : Reading) → Holds rows (n ∷ start ∷ []) → NoLitter t → read rows (8 + n) t ≡ r → readLast vs (8 + n) start n r ≡ form k → Wrong n start t k
-last-departs vs start n t k (departsAt j) b o e f = no-line (cc) o (λ u. not-rendered rows t (n ∷ start ∷ []) u (8 + n) j rows-sound e b)
+    (vs : List ℕ) (start n : ℕ) (t : List ℕ) (k : ℕ) (r : Reading) → Holds closing (n ∷ start ∷ []) → NoLitter t → read closing (8 + n) t ≡ r → readLast vs (8 + n) start n r ≡ form k → Wrong n start t k
+last-departs vs start n t k (departsAt j) b o e f = no-line (cc) o (λ u. not-rendered closing t (n ∷ start ∷ []) u (8 + n) j closing-sound e b)
 last-departs vs start n t k (done ws u) b o e f =
     cases (eqb (first ws) n && eqb (first (after ws)) start)
     (λ x. cases (isEmpty u)
@@ -57,7 +57,7 @@ last-departs vs start n t k (done ws u) b o e f =
     more (first u) (after u) (omega arith) (last-right (8 + n) start n t ws u e x ∙ ap (λ x. lastLine n start ++ x) (some-more u y))))
     (λ x.
     no-line (let g = rw x at f in cc) o (λ u' q.
-    let e' : read rows (8 + n) t ≡ done (n ∷ start ∷ []) u' = rw q (read-rendered rows (n ∷ start ∷ []) u' (8 + n) rows-sound b) in
+    let e' : read closing (8 + n) t ≡ done (n ∷ start ∷ []) u' = rw q (read-rendered closing (n ∷ start ∷ []) u' (8 + n) closing-sound b) in
     let w : ws ≡ n ∷ start ∷ [] = cc in
     true≢false (sym (rw (w, eq-eqb n n refl, eq-eqb start start refl)) ∙ x)))
 
@@ -101,7 +101,7 @@ rows-depart (suc lines) vs start n k b s h g e = by-line (rows-depart lines vs s
         let p = litter-some l (q .1) in
         litter-before start n s k l t (q .0) (q .1) (ih t (omega arith) (omega arith) (by-rest l (readRows lines vs start (n + 1) t) e₂))
     by-line ih (departsAt j) e₁ e₂ =
-        let w = last-departs vs start n s k (read rows (8 + n) s) (last-holds n start (omega arith) b) (λ l u. not-rendered litter s l u (8 + n) j litter-sound e₁) refl e₂ in
+        let w = last-departs vs start n s k (read closing (8 + n) s) (last-holds n start (omega arith) b) (λ l u. not-rendered litter s l u (8 + n) j litter-sound e₁) refl e₂ in
         record { litters = []; each = tt; there = s; text = refl; wrong = rw (add-zero n) w }
 
 head-before : (text vs top s : List ℕ) (k : ℕ) → length text ≤ 8192 → text ≡ top ++ s → Spells head vs top → RowsDepart (length top) 0 s k → Departure text k
@@ -128,19 +128,19 @@ form-is-departure text k e =
 
 -- ---- the other way
 
-wrong-form : (vs : List ℕ) (start n : ℕ) (t : List ℕ) (k : ℕ) (go : List ℕ → Asked) → Holds rows (n ∷ start ∷ []) → Wrong n start t k → readRow vs (8 + n) start n t (read litter (8 + n) t) go ≡ form k
+wrong-form : (vs : List ℕ) (start n : ℕ) (t : List ℕ) (k : ℕ) (go : List ℕ → Asked) → Holds closing (n ∷ start ∷ []) → Wrong n start t k → readRow vs (8 + n) start n t (read litter (8 + n) t) go ≡ form k
 wrong-form vs start n t k go b (more c u e q) =
     let us = n ∷ start ∷ [] in
-    rw (q, no-litter (8 + n) us (c ∷ u), read-rendered rows us (c ∷ u) (8 + n) rows-sound b, eq-eqb n n refl, eq-eqb start start refl) (ap form (omega arith))
+    rw (q, no-litter (8 + n) us (c ∷ u), read-rendered closing us (c ∷ u) (8 + n) closing-sound b, eq-eqb n n refl, eq-eqb start start refl) (ap form (omega arith))
 wrong-form vs start n t k go b (no-line e p q) = by-litter (read litter (8 + n) t) refl
   where
-    by-last : (r : Reading) → read rows (8 + n) t ≡ r → readLast vs (8 + n) start n r ≡ form k
+    by-last : (r : Reading) → read closing (8 + n) t ≡ r → readLast vs (8 + n) start n r ≡ form k
     by-last (departsAt j) f = ap form (sym e)
     by-last (done ws u) f =
         cases (eqb (first ws) n && eqb (first (after ws)) start) (λ x. absurd (q u (last-right (8 + n) start n t ws u f x))) (λ x. rw x (ap form (sym e)))
 
     by-litter : (r : Reading) → read litter (8 + n) t ≡ r → readRow vs (8 + n) start n t r go ≡ form k
-    by-litter (departsAt j) f = by-last (read rows (8 + n) t) refl
+    by-litter (departsAt j) f = by-last (read closing (8 + n) t) refl
     by-litter (done l u) f = let r = rendered-read litter t l u (8 + n) litter-plain f in absurd (p l u (r .1) (r .0))
 
 rows-form :

@@ -6,9 +6,9 @@ use Prim.Native.Nat.{ℕ, zero, suc, _+_, _-_}
 use borrow.Table.Steps.{cases}
 use lib.Dec.{ltb, eqb}
 use lib.ListN.{length}
-use Rattle.form.specs.Form.{first, after}
-use Rattle.form.specs.Read.{Reading, done, departsAt, read}
-use Rattle.read.specs.Request.{head, litter, rows, Asked, asked, form, isEmpty, withLitter, readLast, readRow, readRows, readAfter, readRequest}
+use Rattle.template.specs.Template.{first, after}
+use Rattle.template.specs.Read.{Reading, done, departsAt, read}
+use Rattle.read.specs.Request.{head, litter, closing, Asked, asked, form, isEmpty, withLitter, readLast, readRow, readRows, readAfter, readRequest}
 use Rattle.read.specs.BothWays.{not-asked}
 use Rattle.read.specs.Rows.{putLitter, putLitters, fillRow, fillRows, fillAfter, fillRequest}
 
@@ -34,7 +34,7 @@ rows-filled (suc k) vs start n b s us ls e = by-line (rows-filled k vs start (n 
 
     by-line : RowsFilled k vs start (n + 1) → (r : Reading) → readRow vs (8 + n) start n s r (readRows k vs start (n + 1)) ≡ asked us ls → fillRow n b r (fillRows k (n + 1)) ≡ putLitters b n ls
     by-line ih (done l t) e = by-rest l t (readRows k vs start (n + 1) t) refl e ih
-    by-line ih (departsAt j) e = by-last (read rows (8 + n) s) e
+    by-line ih (departsAt j) e = by-last (read closing (8 + n) s) e
 
 pub request-filled : (b text vs : List ℕ) (ls : List (List ℕ)) → readRequest text ≡ asked vs ls → fillRequest b text ≡ putLitters b 0 ls
 unfolding readRequest fillRequest

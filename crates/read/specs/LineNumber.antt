@@ -4,22 +4,22 @@ use mathlib.Core.List.{List, [], _∷_, _++_, append-assoc}
 use Prim.Native.Nat.{ℕ, _+_, _≤_}
 use native.Mathlib.Omega.{arith}
 use lib.ListN.{length}
-use Rattle.form.specs.Form.{render}
-use Rattle.form.specs.Read.{feeds}
-use Rattle.form.specs.Feeds.{feeds-append, render-feeds, spells-feeds, feeds-before, text-before}
-use Rattle.form.specs.Feeds.{beforeOf as before-line}
-use Rattle.read.specs.Request.{head, litter, rows, renderLitters}
+use Rattle.template.specs.Template.{render}
+use Rattle.template.specs.Read.{feeds}
+use Rattle.template.specs.Feeds.{feeds-append, render-feeds, spells-feeds, feeds-before, text-before}
+use Rattle.template.specs.Feeds.{beforeOf as before-line}
+use Rattle.read.specs.Request.{head, litter, closing, renderLitters}
 use Rattle.read.specs.BothWays.{head-sound, lastLine}
 use Rattle.read.specs.Departure.{Wrong, no-line, more, Departure, too-long, in-head, past-head}
 
-forms-feed : (feeds head ≡ 7) × (feeds litter ≡ 1) × (feeds rows ≡ 1)
-unfolding feeds head litter rows
-forms-feed = (refl, refl, refl)
+templates-feed : (feeds head ≡ 7) × (feeds litter ≡ 1) × (feeds closing ≡ 1)
+unfolding feeds head litter closing
+templates-feed = (refl, refl, refl)
 
 litters-feed : (ls : List (List ℕ)) → feeds (renderLitters ls) ≡ length ls
 unfolding feeds renderLitters
 litters-feed [] = refl
-litters-feed (l ∷ ls) = rw (feeds-append (render litter l) (renderLitters ls), render-feeds litter l, litters-feed ls) (omega (arith, forms-feed))
+litters-feed (l ∷ ls) = rw (feeds-append (render litter l) (renderLitters ls), render-feeds litter l, litters-feed ls) (omega (arith, templates-feed))
 
 -- the text before the line at which it departs: for one too long, none
 abbrev wrongAfter : {n start : ℕ} {t : List ℕ} {k : ℕ} → Wrong n start t k → List ℕ
@@ -34,13 +34,13 @@ beforeOf (past-head vs top ls t h b a e w) = top ++ (renderLitters ls ++ wrongAf
 wrong-feeds : {n start : ℕ} {t : List ℕ} {k : ℕ} → (w : Wrong n start t k) → k ≡ 8 + n + feeds (wrongAfter w)
 unfolding feeds
 wrong-feeds (no-line e p q) = omega arith
-wrong-feeds {n = n} {start = start} (more c u e q) = rw (render-feeds rows (n ∷ start ∷ [])) (omega (arith, forms-feed))
+wrong-feeds {n = n} {start = start} (more c u e q) = rw (render-feeds closing (n ∷ start ∷ [])) (omega (arith, templates-feed))
 
 pub line-number : {text : List ℕ} {k : ℕ} → (d : Departure text k) → length text ≤ 8192 → k ≡ 1 + feeds (beforeOf d)
 line-number (too-long h e) l = absurd (omega arith)
 line-number (in-head h d) l = feeds-before head-sound d
 line-number (past-head vs top ls t h b a e w) l =
-    rw (feeds-append top (renderLitters ls ++ wrongAfter w), feeds-append (renderLitters ls) (wrongAfter w), spells-feeds b, litters-feed ls) (omega (arith, forms-feed, wrong-feeds w))
+    rw (feeds-append top (renderLitters ls ++ wrongAfter w), feeds-append (renderLitters ls) (wrongAfter w), spells-feeds b, litters-feed ls) (omega (arith, templates-feed, wrong-feeds w))
 
 wrong-text : {n start : ℕ} {t : List ℕ} {k : ℕ} → (w : Wrong n start t k) → (u : List ℕ) × (t ≡ wrongAfter w ++ u)
 wrong-text {t = t} (no-line e p q) = (t, refl)

@@ -5,12 +5,12 @@ use Prim.Native.Nat.{ℕ}
 use Prim.Native.String.{String}
 use lib.Count.{trailingZeros}
 use lib.Ieee.{span, climb, size, odd, units, round, toBits}
-use Rattle.form.specs.Digits.{digits, placesFrom}
-use Rattle.form.specs.Form.{ascii, render}
-use Rattle.form.specs.Field.{readHex, readMore, readCount, readByte}
-use Rattle.form.specs.Decimal.{readRun, decimalBits, readUnsigned, readDecimal, readValue}
-use Rattle.form.specs.Read.{readField, read}
-use Rattle.read.specs.Request.{head, litter, rows, asked, form, renderLitters, renderRequest, readRows, readRequest}
+use Rattle.template.specs.Digits.{digits, placesFrom}
+use Rattle.template.specs.Template.{ascii, render}
+use Rattle.template.specs.Field.{readHex, readMore, readCount, readByte}
+use Rattle.template.specs.Decimal.{readRun, decimalBits, readUnsigned, readDecimal, readValue}
+use Rattle.template.specs.Read.{readField, read}
+use Rattle.read.specs.Request.{head, litter, closing, asked, form, renderLitters, renderRequest, readRows, readRequest}
 
 -- LF after every line
 abbrev pub text : List String → List ℕ
@@ -50,12 +50,12 @@ abbrev pub litters-a : List (List ℕ)
 litters-a = (0 ∷ 1 ∷ 2 ∷ []) ∷ (0 ∷ 1 ∷ 2 ∷ []) ∷ (1 ∷ 1 ∷ 2 ∷ []) ∷ (1 ∷ 1 ∷ 2 ∷ []) ∷ []
 
 pub example-a-rendered : renderRequest (values-a 10) litters-a ≡ example-a
-unfolding renderRequest renderLitters render head litter rows digits placesFrom
+unfolding renderRequest renderLitters render head litter closing digits placesFrom
 example-a-rendered = refl
 
 -- with no iterations the work line is a byte shorter
 pub example-a-read : (readRequest example-a ≡ asked (values-a 10) litters-a) × (readRequest (like-a mean-a "work 10 0 4" "rows 4 at 284\n") ≡ asked (values-a 0) litters-a)
-unfolding readRequest readRows read readField readByte readCount readMore readHex readValue readDecimal readUnsigned readRun head litter rows
+unfolding readRequest readRows read readField readByte readCount readMore readHex readValue readDecimal readUnsigned readRun head litter closing
 example-a-read = (refl, refl)
 
 -- an upper-case digit; a zero in front; 2^32; another start; another number of litters; no LF; no last line; a line after the last; no text
@@ -69,7 +69,7 @@ pub departures :
     × (readRequest (like-a mean-a "work 10 10 4" "") ≡ form 12)
     × (readRequest (like-a mean-a "work 10 10 4" "rows 4 at 285\nlitter 1 1 2\n") ≡ form 13)
     × (readRequest [] ≡ form 1)
-unfolding readRequest readRows read readField readByte readCount readMore readHex readValue readDecimal readUnsigned readRun head litter rows
+unfolding readRequest readRows read readField readByte readCount readMore readHex readValue readDecimal readUnsigned readRun head litter closing
 departures = (refl, refl, refl, refl, refl, refl, refl, refl, refl)
 
 -- ---- decimals
@@ -94,7 +94,7 @@ example-a-decimals =
 
 -- it asks the same as the other text
 pub example-a-decimals-read : readRequest example-a-decimals ≡ asked (values-a 10) litters-a
-unfolding readRequest readRows read readField readByte readCount readMore readHex readValue readDecimal readUnsigned readRun decimalBits round units size span climb odd trailingZeros toBits head litter rows
+unfolding readRequest readRows read readField readByte readCount readMore readHex readValue readDecimal readUnsigned readRun decimalBits round units size span climb odd trailingZeros toBits head litter closing
 example-a-decimals-read = refl
 
 -- no digit behind the point; none before it; an exponent; a second point; eighteen digits; a minus before hexadecimals
@@ -105,5 +105,5 @@ pub decimals-depart :
     × (readRequest (like-a "mean 0 -1.0.0 1.0 0.0" "work 10 10 4" "rows 4 at 249\n") ≡ form 2)
     × (readRequest (like-a "mean 0 -1.00000000000000000 1.0 0.0" "work 10 10 4" "rows 4 at 263\n") ≡ form 2)
     × (readRequest (like-a "mean 0 -1.0 1.0 -3fb999999999999a" "work 10 10 4" "rows 4 at 261\n") ≡ form 2)
-unfolding readRequest readRows read readField readByte readCount readMore readHex readValue readDecimal readUnsigned readRun decimalBits round units size span climb odd trailingZeros toBits head litter rows
+unfolding readRequest readRows read readField readByte readCount readMore readHex readValue readDecimal readUnsigned readRun decimalBits round units size span climb odd trailingZeros toBits head litter closing
 decimals-depart = (refl, refl, refl, refl, refl, refl)

@@ -4,8 +4,8 @@ use mathlib.Core.List.{List, [], _∷_, _++_}
 use Prim.Native.Nat.{ℕ, zero, suc, _+_, _-_}
 use lib.Dec.{ltb, eqb}
 use lib.ListN.{length}
-use Rattle.form.specs.Form.{ascii, first, after, render}
-use Rattle.form.specs.Read.{Reading, done, departsAt, read}
+use Rattle.template.specs.Template.{ascii, first, after, render}
+use Rattle.template.specs.Read.{Reading, done, departsAt, read}
 
 -- Seven lines: bounds come low, high, start; work is evaluations, iterations, quadrature.
 unfoldable pub head : List ℕ
@@ -16,8 +16,8 @@ unfoldable pub litter : List ℕ
 litter = ascii "litter # # #\n"
 
 -- the number of litters, and the byte at which the first litter line starts
-unfoldable pub rows : List ℕ
-rows = ascii "rows # at #\n"
+unfoldable pub closing : List ℕ
+closing = ascii "rows # at #\n"
 
 -- What a text asks: the head's sixteen values, an f64 by its bits, and the three numbers of each litter.
 pub data Asked : Type 0 where
@@ -31,7 +31,7 @@ renderLitters [] = []
 renderLitters (l ∷ ls) = render litter l ++ renderLitters ls
 
 unfoldable pub renderRequest : List ℕ → List (List ℕ) → List ℕ
-renderRequest vs ls = render head vs ++ (renderLitters ls ++ render rows (length ls ∷ length (render head vs) ∷ []))
+renderRequest vs ls = render head vs ++ (renderLitters ls ++ render closing (length ls ∷ length (render head vs) ∷ []))
 
 -- ---- reading
 
@@ -52,7 +52,7 @@ readLast vs line start n (done us t) = cond (eqb (first us) n && eqb (first (aft
 -- a line is a litter, or else the last
 abbrev pub readRow : List ℕ → ℕ → ℕ → ℕ → List ℕ → Reading → (List ℕ → Asked) → Asked
 readRow vs line start n s (done l t) go = withLitter l (go t)
-readRow vs line start n s (departsAt k) go = readLast vs line start n (read rows line s)
+readRow vs line start n s (departsAt k) go = readLast vs line start n (read closing line s)
 
 -- at most k lines more: n litters stand before them
 unfoldable pub readRows : ℕ → List ℕ → ℕ → ℕ → List ℕ → Asked

@@ -4,8 +4,8 @@ use mathlib.Core.List.{List, [], _∷_}
 use Prim.Native.Nat.{ℕ, zero, suc, _+_}
 use lib.Dec.{ltb}
 use lib.ListN.{length, getD, replicate}
-use Rattle.form.specs.Read.{Reading, done, departsAt, read}
-use Rattle.litters.specs.Litters.{rowIn}
+use Rattle.template.specs.Read.{Reading, done, departsAt, read}
+use Rattle.litters.specs.Table.{rowIn}
 use Rattle.read.specs.declared.Lines.{Lines}
 use Rattle.read.specs.declared.Lines.the-variants.{Litters, Departs}
 use Rattle.read.specs.declared.Asking.{Asking}

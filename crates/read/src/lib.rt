@@ -3,9 +3,9 @@ ghost use mathlib.Core.Path.{_≡_};
 ghost use mathlib.Core.List.{List};
 ghost use Prim.Native.Nat.{ℕ, _+_, _^_, _≤_, _<_};
 ghost use lib.ListN.{length, getD, drop};
-ghost use Rattle.form.specs.Read.{read as Form·read};
+ghost use Rattle.template.specs.Read.{read as Template·read};
 ghost use Rattle.read.specs.Request.{readLast, readRows, readRequest};
-ghost use Rattle.read.specs.Request.{rows as Request·rows};
+ghost use Rattle.read.specs.Request.{closing};
 ghost use Rattle.read.specs.Rows.{putLitter, fillRows, fillRequest, askingOf, rowsSay, departedOf};
 
 // The number of litters, or the line at which the text departs.
@@ -25,10 +25,10 @@ pub struct Asking {
 // The last line, after n litters of which the first starts at `start`.
 fn last(text: &[u8], at: usize, n: u64, start: usize) -> Lines
     requires { ⌜ (at ≤ length (now text)) × (n ≤ 8192) ⌝ }
-    ensures { λ r. ⌜ ((vs : List ℕ) → rowsSay vs r ≡ askingOf n (readLast vs (8 + n) start n (Form·read Request·rows (8 + n) (drop at (now (text .entry)))))) ⌝ }
+    ensures { λ r. ⌜ ((vs : List ℕ) → rowsSay vs r ≡ askingOf n (readLast vs (8 + n) start n (Template·read closing (8 + n) (drop at (now (text .entry)))))) ⌝ }
 {
     let line = 8 + n;
-    let r = form::read::read(text, at, b"rows # at #\n", line);
+    let r = template::read::read(text, at, b"rows # at #\n", line);
     let v = r.values;
     let next = r.at;
     if !r.fits {
@@ -66,7 +66,7 @@ fn rows(text: &[u8], start: usize, litters: &mut [u32; 384]) -> Lines
 {
     let mut at = start;
     for n in 0..8192u64 {
-        let r = form::read::read(text, at, b"litter # # #\n", 8 + n);
+        let r = template::read::read(text, at, b"litter # # #\n", 8 + n);
         if !r.fits {
             return last(text, at, n, start);
         }
@@ -94,7 +94,7 @@ pub fn request(text: &[u8], litters: &mut [u32; 384]) -> Asking
     if 8192 < text.len() {
         return departed(0);
     }
-    let r = form::read::read(
+    let r = template::read::read(
         text,
         0,
         b"probit-request 1\nmean 0 % % %\nmean 1 % % %\nsd 0 % % %\nsd 1 % % %\nwork # # #\ntolerance %\n",

@@ -1,33 +1,35 @@
--- The table's numbers are the litters' own, or there are more than 128 litters, which are refused as none are.
+-- What is answered of the table's numbers is what is answered of the litters.
 use mathlib.Core.Path.{_≡_, sym, ap, _∙_}
 use mathlib.Core.Bool.{false}
-use mathlib.Core.List.{List, []}
-use Prim.Native.Nat.{ℕ, _<_}
-use native.Mathlib.Omega.{arith}
-use lib.Dec.{leb}
+use mathlib.Core.List.{List}
+use Prim.Native.Nat.{ℕ}
+use lib.Ieee.{Float}
 use lib.ListN.{length}
-use borrow.Author.Tests.{leb-true, leb-false}
-use Rattle.work.specs.Metered.{split}
-use Rattle.objective.specs.Litters.{countOf, validLitters}
-use Rattle.objective.specs.Refused.{many-invalid, none-invalid}
+use Rattle.work.specs.declared.Ending.the-variants.{InvalidInput}
+use Rattle.objective.specs.Objective.{objectiveOf, refusalOf as noObjective}
+use Rattle.objective.specs.Checks.{invalid-refused as objective-refused}
 use Rattle.summary.specs.Summary.{refusalOf, summaryOf}
+use Rattle.summary.specs.Refused.{invalid-refused as summary-refused}
+use Rattle.request.specs.declared.Request.{Request}
+use Rattle.fit.specs.Fit.{refusedOf, fitOf}
+use Rattle.fit.specs.Refused.{invalid-refused as fit-refused}
 use Rattle.litters.specs.declared.Litter.{Litter}
-use Rattle.litters.specs.Litters.{numbersOf, noRows, withRows, keptOf}
-use Rattle.litters.specs.Kept.{numbers-long, few}
+use Rattle.litters.specs.declared.table.Table.{Table}
+use Rattle.litters.specs.Litters.{numbersOf}
+use Rattle.litters.specs.Table.{noRows, withRows, keptOf}
+use Rattle.litters.specs.Valid.{validLittersOf}
+use Rattle.litters.specs.HandedOn.{as-lent}
 
-numbers-count : (ls : List Litter) → countOf (numbersOf ls) ≡ length ls
-numbers-count ls = omega (arith, numbers-long ls)
+-- what is answered of a table t with n litters is what is answered of the litters
+module _ (ls : List Litter) (t : Table) (n : ℕ) (holds : t ≡ withRows ls 0 noRows) (long : length ls ≡ n) where
+  kept : {A : Type 0} (f : List ℕ → A) (refusal : A) → ((ns : List ℕ) → validLittersOf ns ≡ false → f ns ≡ refusal) → f (keptOf (t .numbers) n) ≡ f (numbersOf ls)
+  kept f refusal refused = ap (λ (y : Table). f (keptOf (y .numbers) n)) holds ∙ (ap (λ (k : ℕ). f (keptOf (withRows ls 0 noRows .numbers) k)) (sym long) ∙ as-lent f refusal refused ls)
 
--- so what refuses litters that are not valid cannot tell the two apart
-pub as-lent : {A : Type 0} (f : List ℕ → A) (refusal : A) → ((ns : List ℕ) → validLitters ns ≡ false → f ns ≡ refusal) → (ls : List Litter)
-    → f (keptOf (withRows ls 0 noRows .numbers) (length ls)) ≡ f (numbersOf ls)
-as-lent f refusal refused ls =
-    split (leb (length ls) 128)
-    (λ b. rw b (ap f (few ls (leb-true (length ls) 128 b))))
-    (λ b.
-    let many : 128 < countOf (numbersOf ls) = omega (arith, numbers-count ls, leb-false (length ls) 128 b) in
-    rw b (refused [] none-invalid ∙ sym (refused (numbersOf ls) (many-invalid (numbersOf ls) many))))
+  pub fit-kept : (r : Request) → fitOf r (keptOf (t .numbers) n) ≡ fitOf r (numbersOf ls)
+  fit-kept r = kept (fitOf r) (refusedOf InvalidInput 0) (fit-refused r)
 
-pub summary-refused : (ns : List ℕ) → validLitters ns ≡ false → summaryOf ns ≡ refusalOf
-unfolding summaryOf
-summary-refused ns h = rw h
+  pub objective-kept : (x : List Float) → objectiveOf x (keptOf (t .numbers) n) ≡ objectiveOf x (numbersOf ls)
+  objective-kept x = kept (objectiveOf x) (noObjective InvalidInput (record { 0 = 0 })) (objective-refused x)
+
+  pub summary-kept : summaryOf (keptOf (t .numbers) n) ≡ summaryOf (numbersOf ls)
+  summary-kept = kept summaryOf refusalOf summary-refused

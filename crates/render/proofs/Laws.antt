@@ -10,11 +10,11 @@ use borrow.Author.Tests.{lt-ltb, le-ltb, ne-eqb}
 use lib.ListN.{length, drop, getD, set, length-append, drop-of-length-le, List·getD-eq-default}
 use lib.Seq.{drop-cons}
 use Rattle.num.specs.Left.{left-one, left-none}
-use Rattle.form.specs.Digits.{glyph, digits, placesFrom}
-use Rattle.form.specs.Form.{first, after, isHole, piece, render}
+use Rattle.template.specs.Digits.{glyph, digits, placesFrom}
+use Rattle.template.specs.Template.{first, after, isHoleOf, piece, render}
 use Rattle.render.specs.Written.{written}
 use Rattle.render.specs.WrittenLaws.{length-written, written-append}
-use Rattle.render.specs.Width.{widest, width, takenAfter, places-most, length-digits, length-piece}
+use Rattle.render.specs.Width.{widest, width, takenAfterOf, places-most, length-digits, length-piece}
 
 -- ---- how many digits: k were passed, 20 - k can still be
 module _ (n k : ℕ) where
@@ -109,16 +109,16 @@ pub past-end : (l : List ℕ) (i : ℕ) → length l ≤ i → 0 ≡ getD l i 0
 past-end l i h = sym (List·getD-eq-default l 0 h)
 
 module _ (c n r : ℕ) where
-  pub taken-count : c ≡ 35 → r ≡ n + 1 → r ≡ takenAfter c n
+  pub taken-count : c ≡ 35 → r ≡ n + 1 → r ≡ takenAfterOf c n
   taken-count h e = rw h e
 
-  pub taken-bits : c ≡ 37 → r ≡ n + 1 → r ≡ takenAfter c n
+  pub taken-bits : c ≡ 37 → r ≡ n + 1 → r ≡ takenAfterOf c n
   taken-bits h e = rw h e
 
-  pub taken-none : (c ≡ 35 → ⊥) → (c ≡ 37 → ⊥) → r ≡ n → r ≡ takenAfter c n
+  pub taken-none : (c ≡ 35 → ⊥) → (c ≡ 37 → ⊥) → r ≡ n → r ≡ takenAfterOf c n
   taken-none g h e = rw (ne-eqb c 35 g, ne-eqb c 37 h) e
 
--- ---- a form: i of its bytes are written, k values taken
+-- ---- a template: i of its bytes are written, k values taken
 abbrev pub rest : List ℕ → List ℕ → ℕ → ℕ → List ℕ
 rest f vs i k = render (drop i f) (drop k vs)
 
@@ -138,7 +138,7 @@ left-drop : (t : Bool) (vs : List ℕ) (k : ℕ) → cond t (after (drop k vs)) 
 left-drop true vs k = rw (add-one, after-drop)
 left-drop false vs k = refl
 
-rest-is : (f vs : List ℕ) (i k : ℕ) → i < length f → rest f vs i k ≡ piece (getD f i 0) (getD vs k 0 ∷ []) ++ rest f vs (i + 1) (takenAfter (getD f i 0) k)
+rest-is : (f vs : List ℕ) (i k : ℕ) → i < length f → rest f vs i k ≡ piece (getD f i 0) (getD vs k 0 ∷ []) ++ rest f vs (i + 1) (takenAfterOf (getD f i 0) k)
 unfolding render
 rest-is f vs i k h = rw (add-one i, drop-cons f i 0 h, first-drop, left-drop)
 
@@ -154,7 +154,7 @@ module _ (f : List ℕ) (i at r v : ℕ) (h : i < length f) (p : r ≡ at + leng
   pub put-room : (n : ℕ) → at + width (drop i f) ≤ n → r + width (drop (i + 1) f) ≤ n
   put-room n j = omega (arith, width-is f i h, length-piece (getD f i 0) (v ∷ []))
 
-  module _ (vs : List ℕ) (k t : ℕ) (u : v ≡ getD vs k 0) (e : t ≡ takenAfter (getD f i 0) k) where
+  module _ (vs : List ℕ) (k t : ℕ) (u : v ≡ getD vs k 0) (e : t ≡ takenAfterOf (getD f i 0) k) where
     pub put-text : (w l l′ : List ℕ) → written l at (rest f vs i k) ≡ w → l′ ≡ written l at (piece (getD f i 0) (v ∷ [])) → written l′ r (rest f vs (i + 1) t) ≡ w
     put-text w l l′ j q = rw (q, p, e, u, ← written-append, ← rest-is f vs i k h) j
 
@@ -165,8 +165,8 @@ choice-few : (b : Bool) (k i : ℕ) → k ≤ i → cond b (k + 1) k ≤ i + 1
 choice-few true k i h = omega arith
 choice-few false k i h = omega arith
 
-pub taken-few : (c k i t : ℕ) → t ≡ takenAfter c k → k ≤ i → t ≤ i + 1
-taken-few c k i t e h = rw e (choice-few (isHole c) k i h)
+pub taken-few : (c k i t : ℕ) → t ≡ takenAfterOf c k → k ≤ i → t ≤ i + 1
+taken-few c k i t e h = rw e (choice-few (isHoleOf c) k i h)
 
 rest-none : (f vs : List ℕ) (i k : ℕ) → length f ≤ i → rest f vs i k ≡ []
 unfolding render

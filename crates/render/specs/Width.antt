@@ -1,4 +1,4 @@
--- The most bytes that a form can become, whatever its values: what a buffer has to have room for.
+-- The most bytes that a template can become, whatever its values: what a buffer has to have room for.
 use mathlib.Core.Path.{_≡_, refl}
 use mathlib.Core.Bool.{Bool, true, false, cond}
 use mathlib.Core.List.{List, [], _∷_}
@@ -6,16 +6,16 @@ use Prim.Native.Nat.{ℕ, zero, suc, _+_, _/_, _≤_, zero-le}
 use native.Mathlib.Omega.{arith}
 use lib.Dec.{ltb}
 use lib.ListN.{length, length-append}
-use Rattle.form.specs.Digits.{digits, placesFrom}
-use Rattle.form.specs.Form.{isCount, isBits, isHole, piece, valuesAfter, render, first}
+use Rattle.template.specs.Digits.{digits, placesFrom}
+use Rattle.template.specs.Template.{isCount, isBits, isHoleOf, piece, valuesAfter, render, first}
 
 -- a count has at most twenty digits, an f64's bits have sixteen
 abbrev pub widest : ℕ → ℕ
 widest c = cond (isCount c) 20 (cond (isBits c) 16 1)
 
 -- how many values were taken, after the byte c
-abbrev pub takenAfter : ℕ → ℕ → ℕ
-takenAfter c n = cond (isHole c) (n + 1) n
+abbrev pub takenAfterOf : ℕ → ℕ → ℕ
+takenAfterOf c n = cond (isHoleOf c) (n + 1) n
 
 unfoldable pub width : List ℕ → ℕ
 width [] = 0

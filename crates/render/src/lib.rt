@@ -1,12 +1,12 @@
-// A form written into a lent buffer: a count in decimal, an f64's bits in hexadecimal, any other byte as it is.
+// A template written into a lent buffer: a count in decimal, an f64's bits in hexadecimal, any other byte as it is.
 ghost use mathlib.Core.Path.{_≡_};
 ghost use mathlib.Core.List.{_∷_, []};
 ghost use Prim.Native.Nat.{_+_, _/_, _%_, _^_, _≤_, _<_};
 ghost use lib.ListN.{length, getD};
-ghost use Rattle.form.specs.Digits.{glyph as Digits·glyph, digits as Digits·digits, places as Digits·places};
-ghost use Rattle.form.specs.Form.{piece as Form·piece, render};
+ghost use Rattle.template.specs.Digits.{glyph as Digits·glyph, digits as Digits·digits, places as Digits·places};
+ghost use Rattle.template.specs.Template.{piece as Template·piece, render};
 ghost use Rattle.render.specs.Written.{written};
-ghost use Rattle.render.specs.Width.{widest, width, takenAfter};
+ghost use Rattle.render.specs.Width.{widest, width, takenAfterOf};
 
 // How many digits n has in decimal; never more than twenty.
 fn places(n: u64) -> usize
@@ -70,10 +70,10 @@ fn value(values: &[u64], i: usize) -> u64
     if i < values.len() { values[i] } else { 0 }
 }
 
-// How many values were taken, after the byte c of a form.
+// How many values were taken, after the byte c of a template.
 fn taken_after(c: u8, taken: usize) -> usize
     requires { ⌜ taken < 2 ^ 63 ⌝ }
-    ensures { λ r. ⌜ r ≡ takenAfter c taken ⌝ }
+    ensures { λ r. ⌜ r ≡ takenAfterOf c taken ⌝ }
 {
     if c == b'#' {
         return taken + 1;
@@ -81,10 +81,10 @@ fn taken_after(c: u8, taken: usize) -> usize
     if c == b'%' { taken + 1 } else { taken }
 }
 
-// What the byte c of a form becomes, v being the next value.
+// What the byte c of a template becomes, v being the next value.
 fn piece(c: u8, v: u64, out: &mut [u8], at: usize) -> usize
     requires { ⌜ at + widest c ≤ length (now out) ⌝ }
-    ensures { λ r. ⌜ (r ≡ at + length (Form·piece c (v ∷ []))) × (now (out .exit) ≡ written (now (out .entry)) at (Form·piece c (v ∷ []))) ⌝ }
+    ensures { λ r. ⌜ (r ≡ at + length (Template·piece c (v ∷ []))) × (now (out .exit) ≡ written (now (out .entry)) at (Template·piece c (v ∷ []))) ⌝ }
 {
     if c == b'#' {
         return digits(10, places(v), v, out, at);
@@ -96,15 +96,15 @@ fn piece(c: u8, v: u64, out: &mut [u8], at: usize) -> usize
     at + 1
 }
 
-// The form with its values, from place `at` on; answers the place after it. A value that is not there is 0.
-pub fn put(form: &[u8], values: &[u64], out: &mut [u8], at: usize) -> usize
-    requires { ⌜ at + width (now form) ≤ length (now out) ⌝ }
-    ensures { λ r. ⌜ (r ≡ at + length (render (now (form .entry)) (now (values .entry)))) × (now (out .exit) ≡ written (now (out .entry)) at (render (now (form .entry)) (now (values .entry)))) ⌝ }
+// The template with its values, from place `at` on; answers the place after it. A value that is not there is 0.
+pub fn put(template: &[u8], values: &[u64], out: &mut [u8], at: usize) -> usize
+    requires { ⌜ at + width (now template) ≤ length (now out) ⌝ }
+    ensures { λ r. ⌜ (r ≡ at + length (render (now (template .entry)) (now (values .entry)))) × (now (out .exit) ≡ written (now (out .entry)) at (render (now (template .entry)) (now (values .entry)))) ⌝ }
 {
     let mut next = at;
     let mut taken: usize = 0;
-    for i in 0..form.len() {
-        let c = form[i];
+    for i in 0..template.len() {
+        let c = template[i];
         let v = value(values, taken);
         next = piece(c, v, out, next);
         taken = taken_after(c, taken);

@@ -16,7 +16,7 @@ enum Outcome {
     Broken,
 }
 
-fn part_of(length: usize, r: form::read::Values) -> Part {
+fn part_of(length: usize, r: template::read::Values) -> Part {
     let start = r.at;
     let v = r.values;
     if !r.fits {
@@ -36,14 +36,17 @@ fn request_at(list: &[u8], at: usize) -> Part {
     if list.len() < at {
         return Part::Missing;
     }
-    part_of(list.len(), form::read::read(list, at, b"request #\n", 1))
+    part_of(
+        list.len(),
+        template::read::read(list, at, b"request #\n", 1),
+    )
 }
 
 fn answer_at(list: &[u8], at: usize) -> Part {
     if list.len() < at {
         return Part::Missing;
     }
-    part_of(list.len(), form::read::read(list, at, b"answer #\n", 1))
+    part_of(list.len(), template::read::read(list, at, b"answer #\n", 1))
 }
 
 fn is_same(a: &[u8], b: &[u8]) -> bool {

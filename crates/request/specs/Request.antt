@@ -1,13 +1,15 @@
 -- A fit's request, and what it has to satisfy. All of it is InvalidInput, so the order of the tests cannot be seen.
-use mathlib.Core.Bool.{Bool, _&&_, cond}
+use mathlib.Core.Bool.{Bool, _&&_}
 use mathlib.Core.List.{List, [], _∷_}
-use Prim.Native.Nat.{ℕ, zero, suc, _+_}
-use lib.Dec.{leb, eqb}
+use Prim.Native.Nat.{ℕ}
+use lib.Dec.{leb}
 use lib.ListN.{getD}
 use lib.Ieee.{Float, nan, neg, lt, le}
 use Rattle.num.specs.F64.{_⊗_, zero·, three·, eight·}
-use Rattle.num.specs.Helpers.{isFinite, powiOf}
-use Rattle.objective.specs.Litters.{countOf, groupAt, validLitters}
+use Rattle.num.specs.Helpers.{isFiniteOf, powiOf}
+use Rattle.litters.specs.Litters.{countOf}
+use Rattle.litters.specs.Valid.{validLittersOf}
+use Rattle.litters.specs.Groups.{ofGroupOf}
 use Rattle.request.specs.declared.Bounds.{Bounds}
 use Rattle.request.specs.declared.Request.{Request}
 
@@ -23,51 +25,47 @@ requestOf b tolerance evaluations iterations quadrature =
       tolerance = tolerance;
     }
 
-abbrev pub finiteThree : Float → Float → Float → Bool
-finiteThree a b c = isFinite a && (isFinite b && isFinite c)
+abbrev pub finiteThreeOf : Float → Float → Float → Bool
+finiteThreeOf a b c = isFiniteOf a && (isFiniteOf b && isFiniteOf c)
 
 -- bounds that increase, with the start inside, ends included
-abbrev pub boxed : Float → Float → Float → Bool
-boxed low high start = lt low high && (le low start && le start high)
+abbrev pub isBoxedOf : Float → Float → Float → Bool
+isBoxedOf low high start = lt low high && (le low start && le start high)
 
-unfoldable pub validMean : Float → Float → Float → Bool
-validMean low high start = finiteThree low high start && (boxed low high start && (le (neg eight·) low && le high eight·))
+unfoldable pub validMeanOf : Float → Float → Float → Bool
+validMeanOf low high start = finiteThreeOf low high start && (isBoxedOf low high start && (le (neg eight·) low && le high eight·))
 
 -- the squared bounds have to increase too
-unfoldable pub validSd : Float → Float → Float → Bool
-validSd low high start = finiteThree low high start && (boxed low high start && (le zero· low && (le high three· && lt (low ⊗ low) (high ⊗ high))))
+unfoldable pub validSdOf : Float → Float → Float → Bool
+validSdOf low high start = finiteThreeOf low high start && (isBoxedOf low high start && (le zero· low && (le high three· && lt (low ⊗ low) (high ⊗ high))))
 
 -- of both groups
-unfoldable pub validMeans : Bounds → Bool
-validMeans b = validMean (getD (b .low) 0 nan) (getD (b .high) 0 nan) (getD (b .start) 0 nan) && validMean (getD (b .low) 1 nan) (getD (b .high) 1 nan) (getD (b .start) 1 nan)
+unfoldable pub validMeansOf : Bounds → Bool
+validMeansOf b = validMeanOf (getD (b .low) 0 nan) (getD (b .high) 0 nan) (getD (b .start) 0 nan) && validMeanOf (getD (b .low) 1 nan) (getD (b .high) 1 nan) (getD (b .start) 1 nan)
 
-unfoldable pub validSds : Bounds → Bool
-validSds b = validSd (getD (b .low) 0 nan) (getD (b .high) 0 nan) (getD (b .start) 0 nan) && validSd (getD (b .low) 1 nan) (getD (b .high) 1 nan) (getD (b .start) 1 nan)
+unfoldable pub validSdsOf : Bounds → Bool
+validSdsOf b = validSdOf (getD (b .low) 0 nan) (getD (b .high) 0 nan) (getD (b .start) 0 nan) && validSdOf (getD (b .low) 1 nan) (getD (b .high) 1 nan) (getD (b .start) 1 nan)
 
-abbrev pub validBoxes : Request → Bool
-validBoxes r = validMeans (r .mean) && validSds (r .sd)
+abbrev pub validBoxesOf : Request → Bool
+validBoxesOf r = validMeansOf (r .mean) && validSdsOf (r .sd)
 
-abbrev pub upTo : ℕ → ℕ → Bool
-upTo most n = leb 1 n && leb n most
+abbrev pub upToOf : ℕ → ℕ → Bool
+upToOf most n = leb 1 n && leb n most
 
-unfoldable pub validControls : Request → Bool
-validControls r = upTo 1000 (r .evaluations .0) && (upTo 1000 (r .iterations .0) && (isFinite (r .tolerance) && lt zero· (r .tolerance)))
+unfoldable pub validControlsOf : Request → Bool
+validControlsOf r = upToOf 1000 (r .evaluations .0) && (upToOf 1000 (r .iterations .0) && (isFiniteOf (r .tolerance) && lt zero· (r .tolerance)))
 
 -- the work limit, 1 to 20,000,000
 abbrev pub validLimit : ℕ → Bool
-validLimit l = upTo 20000000 l
+validLimit l = upToOf 20000000 l
 
--- how many of n litters from the i-th on are of group g
-unfoldable pub ofGroup : List ℕ → ℕ → ℕ → ℕ → ℕ
-ofGroup ls g zero i = 0
-ofGroup ls g (suc n) i = cond (eqb (groupAt ls i) g) 1 0 + ofGroup ls g n (i + 1)
-
-unfoldable pub twoEach : List ℕ → Bool
-twoEach ls = leb 2 (ofGroup ls 0 (countOf ls) 0) && leb 2 (ofGroup ls 1 (countOf ls) 0)
+-- at least two litters of each group
+unfoldable pub twoEachOf : List ℕ → Bool
+twoEachOf ls = leb 2 (ofGroupOf ls 0 (countOf ls) 0) && leb 2 (ofGroupOf ls 1 (countOf ls) 0)
 
 -- all but the work limit
-unfoldable pub admits : Request → List ℕ → Bool
-admits r ls = validBoxes r && (validControls r && (validLitters ls && twoEach ls))
+unfoldable pub admittedOf : Request → List ℕ → Bool
+admittedOf r ls = validBoxesOf r && (validControlsOf r && (validLittersOf ls && twoEachOf ls))
 
 -- the start, and the box: two means, then two variances
 abbrev pub startOf : Request → List Float

@@ -3,10 +3,8 @@ use work::FitEvaluations;
 use work::Iterations;
 use work::QuadratureEvaluations;
 ghost use mathlib.Core.Path.{_≡_};
-ghost use mathlib.Core.Bool.{cond};
-ghost use Prim.Native.Nat.{_≤_};
-ghost use Rattle.objective.specs.Litters.{countOf};
-ghost use Rattle.request.specs.Request.{finiteThree, boxed, validMean, validSd, validMeans, validSds, validBoxes, upTo, validControls, ofGroup, twoEach, admits, startOf, lowOf, highOf};
+ghost use lib.ListN.{length};
+ghost use Rattle.request.specs.Request.{requestOf, finiteThreeOf, isBoxedOf, validMeanOf, validSdOf, validMeansOf, validSdsOf, validBoxesOf, upToOf, validControlsOf, twoEachOf, admittedOf, startOf, lowOf, highOf};
 
 // A parameter's bounds and start, of group 0 and of group 1.
 pub struct Bounds {
@@ -25,8 +23,37 @@ pub struct Request {
     pub tolerance: f64,
 }
 
+// Twelve bounds: low, high and start of mean 0, mean 1, SD 0, SD 1.
+pub fn requested(
+    b: &[f64],
+    tolerance: f64,
+    evaluations: u64,
+    iterations: u64,
+    quadrature: u64,
+) -> Request
+    requires { ⌜ length (now b) ≡ 12 ⌝ }
+    ensures { λ r. ⌜ r ≡ requestOf (now (b .entry)) tolerance evaluations iterations quadrature ⌝ }
+{
+    Request {
+        mean: Bounds {
+            low: [b[0], b[3]],
+            high: [b[1], b[4]],
+            start: [b[2], b[5]],
+        },
+        sd: Bounds {
+            low: [b[6], b[9]],
+            high: [b[7], b[10]],
+            start: [b[8], b[11]],
+        },
+        evaluations: FitEvaluations(evaluations),
+        iterations: Iterations(iterations),
+        quadrature: QuadratureEvaluations(quadrature),
+        tolerance,
+    }
+}
+
 fn finite_three(a: f64, b: f64, c: f64) -> bool
-    ensures { λ r. ⌜ r ≡ finiteThree a b c ⌝ }
+    ensures { λ r. ⌜ r ≡ finiteThreeOf a b c ⌝ }
 {
     num::both(
         num::is_finite(a),
@@ -35,13 +62,13 @@ fn finite_three(a: f64, b: f64, c: f64) -> bool
 }
 
 fn is_boxed(low: f64, high: f64, start: f64) -> bool
-    ensures { λ r. ⌜ r ≡ boxed low high start ⌝ }
+    ensures { λ r. ⌜ r ≡ isBoxedOf low high start ⌝ }
 {
     num::both(low < high, num::both(low <= start, start <= high))
 }
 
 fn valid_mean(low: f64, high: f64, start: f64) -> bool
-    ensures { λ r. ⌜ r ≡ validMean low high start ⌝ }
+    ensures { λ r. ⌜ r ≡ validMeanOf low high start ⌝ }
 {
     let finite = finite_three(low, high, start);
     let inside = is_boxed(low, high, start);
@@ -52,7 +79,7 @@ fn valid_mean(low: f64, high: f64, start: f64) -> bool
 }
 
 fn valid_sd(low: f64, high: f64, start: f64) -> bool
-    ensures { λ r. ⌜ r ≡ validSd low high start ⌝ }
+    ensures { λ r. ⌜ r ≡ validSdOf low high start ⌝ }
 {
     let finite = finite_three(low, high, start);
     let inside = is_boxed(low, high, start);
@@ -61,7 +88,7 @@ fn valid_sd(low: f64, high: f64, start: f64) -> bool
 }
 
 fn valid_means(b: Bounds) -> bool
-    ensures { λ r. ⌜ r ≡ validMeans b ⌝ }
+    ensures { λ r. ⌜ r ≡ validMeansOf b ⌝ }
 {
     let first = valid_mean(b.low[0], b.high[0], b.start[0]);
     let second = valid_mean(b.low[1], b.high[1], b.start[1]);
@@ -69,7 +96,7 @@ fn valid_means(b: Bounds) -> bool
 }
 
 fn valid_sds(b: Bounds) -> bool
-    ensures { λ r. ⌜ r ≡ validSds b ⌝ }
+    ensures { λ r. ⌜ r ≡ validSdsOf b ⌝ }
 {
     let first = valid_sd(b.low[0], b.high[0], b.start[0]);
     let second = valid_sd(b.low[1], b.high[1], b.start[1]);
@@ -77,19 +104,19 @@ fn valid_sds(b: Bounds) -> bool
 }
 
 fn valid_boxes(r: Request) -> bool
-    ensures { λ b. ⌜ b ≡ validBoxes r ⌝ }
+    ensures { λ b. ⌜ b ≡ validBoxesOf r ⌝ }
 {
     num::both(valid_means(r.mean), valid_sds(r.sd))
 }
 
 pub fn up_to(most: u64, n: u64) -> bool
-    ensures { λ r. ⌜ r ≡ upTo most n ⌝ }
+    ensures { λ r. ⌜ r ≡ upToOf most n ⌝ }
 {
     num::both(1 <= n, n <= most)
 }
 
 fn valid_controls(r: Request) -> bool
-    ensures { λ b. ⌜ b ≡ validControls r ⌝ }
+    ensures { λ b. ⌜ b ≡ validControlsOf r ⌝ }
 {
     let a = up_to(1000, r.evaluations.0);
     let b = up_to(1000, r.iterations.0);
@@ -97,37 +124,20 @@ fn valid_controls(r: Request) -> bool
     num::both(a, num::both(b, c))
 }
 
-fn one_if(t: bool) -> usize
-    ensures { λ r. ⌜ (r ≡ cond t 1 0) × (r ≤ 1) ⌝ }
-{
-    if t { 1 } else { 0 }
-}
-
-fn of_group(litters: &[u32], g: u32) -> usize
-    ensures { λ r. ⌜ r ≡ ofGroup (now (litters .entry)) g (countOf (now (litters .entry))) 0 ⌝ }
-{
-    let n = litters.len() / 3;
-    let mut c: usize = 0;
-    for i in 0..n {
-        c += one_if(litters[3 * i + 2] == g);
-    }
-    c
-}
-
 fn two_each(litters: &[u32]) -> bool
-    ensures { λ r. ⌜ r ≡ twoEach (now (litters .entry)) ⌝ }
+    ensures { λ r. ⌜ r ≡ twoEachOf (now (litters .entry)) ⌝ }
 {
-    let a = of_group(litters, 0);
-    let b = of_group(litters, 1);
+    let a = litters::groups::of_group(litters, 0);
+    let b = litters::groups::of_group(litters, 1);
     num::both(2 <= a, 2 <= b)
 }
 
 pub fn admitted(r: Request, litters: &[u32]) -> bool
-    ensures { λ b. ⌜ (b ≡ admits r (now (litters .entry))) × (now (litters .exit) ≡ now (litters .entry)) ⌝ }
+    ensures { λ b. ⌜ (b ≡ admittedOf r (now (litters .entry))) × (now (litters .exit) ≡ now (litters .entry)) ⌝ }
 {
     let a = valid_boxes(r);
     let b = valid_controls(r);
-    let c = objective::check::valid_litters(litters);
+    let c = litters::valid::valid_litters(litters);
     let d = two_each(litters);
     num::both(a, num::both(b, num::both(c, d)))
 }

@@ -7,7 +7,7 @@ use native.Mathlib.Omega.{arith}
 use lib.Dec.{eqb, eqb·suc-zero}
 use lib.Pow.{pow-add, pow-pos, pow-mono}
 use lib.Count.{leadingZeros, leading-top}
-use Rattle.root.specs.Steps.{digits, power, radicandOf, rootBits}
+use Rattle.root.specs.Steps.{digits, power, radicandOf, rootBitsOf}
 use Rattle.root.specs.Units.{value}
 
 -- b with z leading zeros, brought up by z - 11 places
@@ -88,5 +88,5 @@ bounds b h l =
     let s = scaled b h l in
     record { few = s .high; given = omega (arith, even-power (eqb (power b % 2) 1) (digits b) (s .low) (s .high) .1); field = omega (arith, s .within) }
 
-pub root-finite : {n : ℕ} (d p : ℕ) → Scaled d p n → rootBits d p < 0x7ff0_0000_0000_0000
+pub root-finite : {n : ℕ} (d p : ℕ) → Scaled d p n → rootBitsOf d p < 0x7ff0_0000_0000_0000
 root-finite d p s = omega (arith, s .within)

@@ -13,7 +13,7 @@ use lib.Ieee.Bits.{ofBits-fits}
 use lib.Ieee.Exact.{HasValue}
 use Rattle.num.specs.F64.{bits, bitsOf}
 use Rattle.root.specs.Root.{units, Nearest, IsRoot}
-use Rattle.root.specs.Steps.{pencilOf, digits, power, radicandOf, roundedOf, packedOf, rootBits, sqrtOf}
+use Rattle.root.specs.Steps.{pencilOf, digits, power, radicandOf, roundedOf, packedOf, rootBitsOf, sqrtOf}
 use Rattle.root.specs.Pencil.{RootOf, pencil-law, pencil-ge, pencil-le}
 use Rattle.root.specs.Units.{units-is, plus-is, written, bits-read}
 use Rattle.root.specs.Digits.{Scaled, scaled, even-power}
@@ -64,7 +64,7 @@ placed q h k l g e small =
     subst (λ (v : ℕ). HasValue (bits (packedOf k q)) false v (2 ^ 1074)) much
     (subst (λ (f : ℕ). HasValue (bits (packedOf f q)) false ((2 ^ 52 + t) * 2 ^ suc h) (2 ^ 1074)) (sym e) (written (suc h) t (omega arith) (omega arith)))
 
-near : (x : Float) (d p : ℕ) → Scaled d p (units x) → Nearest x (bits (rootBits d p))
+near : (x : Float) (d p : ℕ) → Scaled d p (units x) → Nearest x (bits (rootBitsOf d p))
 near x d p s =
     let m = radicandOf d p in
     let Q = pencilOf m in
@@ -74,7 +74,7 @@ near x d p s =
     let few : m < 2 ^ 54 = omega (arith, e .1) in
     let full = pencil-ge m (e .0) few in
     let top = pencil-le m (e .1) in
-    near-by x (bits (rootBits d p)) Q (roundedOf Q) h (m * 2 ^ 54) (ofBits-fits binary64 (rootBits d p))
+    near-by x (bits (rootBitsOf d p)) Q (roundedOf Q) h (m * 2 ^ 54) (ofBits-fits binary64 (rootBitsOf d p))
     (placed (roundedOf Q) h (p / 2) (omega (arith, full)) (omega (arith, top)) half (omega (arith, s .within)))
     refl
     (pencil-law m few)

@@ -52,8 +52,8 @@ abbrev pub packedOf : ℕ → ℕ → ℕ
 packedOf field m = field * 2 ^ 52 + m % 2 ^ 52
 
 -- The root's digits with one more than the 53 of an f64, rounded to those, under half the power.
-abbrev pub rootBits : ℕ → ℕ → ℕ
-rootBits m p = packedOf (p / 2) (roundedOf (pencilOf (radicandOf m p)))
+abbrev pub rootBitsOf : ℕ → ℕ → ℕ
+rootBitsOf m p = packedOf (p / 2) (roundedOf (pencilOf (radicandOf m p)))
 
 unfoldable pub sqrtOf : Float → Float
-sqrtOf x = cond (lt zero· x) (cond (lt x infinity·) (bits (rootBits (digits (bitsOf x)) (power (bitsOf x)))) x) (cond (lt x zero·) nan x)
+sqrtOf x = cond (lt zero· x) (cond (lt x infinity·) (bits (rootBitsOf (digits (bitsOf x)) (power (bitsOf x)))) x) (cond (lt x zero·) nan x)

@@ -20,9 +20,9 @@ enum Line {
     Failed,
 }
 
-// The whole line is one number, as the form's hole for the bits of an f64 reads it.
+// The whole line is one number, as the template's hole for the bits of an f64 reads it.
 fn number_of(line: &[u8]) -> Number {
-    let r = form::read::read(line, 0, b"%", 1);
+    let r = template::read::read(line, 0, b"%", 1);
     let at = r.at;
     let v = r.values;
     if !r.fits {

@@ -1,7 +1,7 @@
 // The table of one root, from the functions by which `root::sqrt` finds it: what is said last is proved to be its result.
 ghost use mathlib.Core.Path.{_≡_};
 ghost use Prim.Native.Nat.{_^_, _<_};
-ghost use Rattle.root.specs.Steps.{pencilOf, digits, power, rootBits};
+ghost use Rattle.root.specs.Steps.{pencilOf, digits, power, rootBitsOf};
 
 fn drawn_steps(m: u64) -> u64
     requires { ⌜ m < 2 ^ 54 ⌝ }
@@ -19,7 +19,7 @@ fn drawn_steps(m: u64) -> u64
 pub fn drawn(b: u64) -> u64
     requires { ⌜ 0 < b ⌝ }
     requires { ⌜ b < 0x7ff0_0000_0000_0000 ⌝ }
-    ensures { λ r. ⌜ r ≡ rootBits (digits b) (power b) ⌝ }
+    ensures { λ r. ⌜ r ≡ rootBitsOf (digits b) (power b) ⌝ }
 {
     let x = root::parts::parts_of(b);
     let m = root::parts::radicand(x.digits, x.power);

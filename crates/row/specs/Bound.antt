@@ -21,13 +21,13 @@ use Rattle.mode.specs.Bound.{ends-at-most, checkEnds-at-most, peak-at-most}
 use Rattle.tail.specs.Bound.{goal-at-most, span-at-most}
 use Rattle.quadrature.specs.Bound.{ten-at-most}
 use Rattle.row.specs.Peak.{peaked, spanned}
-use Rattle.row.specs.Share.{spread, share, noShare, toRow, rowOf}
+use Rattle.row.specs.Share.{spread, share, noShare, toRow, rowObjectiveOf}
 
 module _ (here : Float → Eval) where
   -- the mode, with its bracket: 32 + 2 + 101
   pub peaked-at-most : AtMost 135 (peaked here)
   unfolding peaked
-  peaked-at-most = both 103 (ends-at-most here) (λ e. both 101 (checkEnds-at-most here e) (λ c. peak-at-most here (c .lo) (c .hi)))
+  peaked-at-most = both 103 (ends-at-most here) (λ e. both 101 (checkEnds-at-most here e) (λ c. peak-at-most here (c .left) (c .right)))
 
   -- the range of the integral: 2 + 60
   pub spanned-at-most : (total : ℕ) (mean sd mode log delta : Float) → AtMost 62 (spanned here total mean sd mode log delta)
@@ -61,27 +61,27 @@ module _ (litter successes total : ℕ) (rule : List Pair) (mean variance : Floa
   cap-never-binds l = cap at (share litter successes total rule mean variance) l 65536 share-at-most (omega arith)
 
   -- and so the row is the same, whether or not the limit is cut
-  pub row-cap : (limit : QuadratureEvaluations) → rowOf litter successes total rule mean variance (record { 0 = min (limit .0) 65536 }) ≡ rowOf litter successes total rule mean variance limit
-  unfolding rowOf
+  pub row-cap : (limit : QuadratureEvaluations) → rowObjectiveOf litter successes total rule mean variance (record { 0 = min (limit .0) 65536 }) ≡ rowObjectiveOf litter successes total rule mean variance limit
+  unfolding rowObjectiveOf
   row-cap limit = ap (told toRow noShare) (cap-never-binds (limit .0))
 
   -- the count that the code reports is the length of the list of evaluations made under its limit
-  pub row-count : (limit : QuadratureEvaluations) → rowOf litter successes total rule mean variance limit .used .0 ≡ length (listedL at (limit .0) (share litter successes total rule mean variance))
-  unfolding rowOf
+  pub row-count : (limit : QuadratureEvaluations) → rowObjectiveOf litter successes total rule mean variance limit .used .0 ≡ length (listedL at (limit .0) (share litter successes total rule mean variance))
+  unfolding rowObjectiveOf
   row-count limit =
       let w = share litter successes total rule mean variance in
       ap (λ m. m .used) (metered-is at (limit .0) 0 w) ∙ rw (sub-zero (limit .0), zero-add (length (listedL at (limit .0) w)))
 
   -- it is never above the limit, nor above 32,933
-  pub row-within : (limit : QuadratureEvaluations) → rowOf litter successes total rule mean variance limit .used .0 ≤ min (limit .0) 32933
-  unfolding rowOf
+  pub row-within : (limit : QuadratureEvaluations) → rowObjectiveOf litter successes total rule mean variance limit .used .0 ≤ min (limit .0) 32933
+  unfolding rowObjectiveOf
   row-within limit =
       let w = share litter successes total rule mean variance in
       rw (← cap at w (limit .0) 32933 share-at-most (omega arith)) (within at (min (limit .0) 32933) 0 w zero-le)
 
   -- where the code reports WorkBudget, it is the limit
-  pub row-short : (limit : QuadratureEvaluations) → rowOf litter successes total rule mean variance limit .end ≡ WorkBudget → rowOf litter successes total rule mean variance limit .used .0 ≡ limit .0
-  unfolding rowOf
+  pub row-short : (limit : QuadratureEvaluations) → rowObjectiveOf litter successes total rule mean variance limit .end ≡ WorkBudget → rowObjectiveOf litter successes total rule mean variance limit .used .0 ≡ limit .0
+  unfolding rowObjectiveOf
   row-short limit e =
       let w = share litter successes total rule mean variance in
       short-at at (limit .0) 0 w zero-le (is-short (metered at (limit .0) 0 w .ended) e)

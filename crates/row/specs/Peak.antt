@@ -6,19 +6,20 @@ use Rattle.root.specs.Steps.{sqrtOf}
 use Rattle.work.specs.Work.{Work, _>>=_, told}
 use Rattle.posterior.specs.declared.integrand.Posterior.{Posterior}
 use Rattle.posterior.specs.declared.integrand.Point.{Point}
+use Rattle.posterior.specs.declared.range.Range.{Range}
 use Rattle.mode.specs.declared.Mode.{Mode}
 use Rattle.tail.specs.declared.Hill.{Hill}
-use Rattle.tail.specs.declared.Range.{Range}
 use Rattle.posterior.specs.Integrand.{Eval, here, from}
+use Rattle.posterior.specs.Range.{Ends, noEnds, toRange}
 use Rattle.mode.specs.Bracket.{ends, checkEnds}
 use Rattle.mode.specs.Mode.{Peak, peak, noPeak, toMode}
-use Rattle.tail.specs.Tail.{goal, Span, span, noSpan, toRange}
+use Rattle.tail.specs.Tail.{goal, span}
 
 unfoldable pub peaked : (Float → Eval) → Work Eval Point Peak
 peaked here = do
   e ← ends here
   c ← checkEnds here e
-  peak here (c .lo) (c .hi)
+  peak here (c .left) (c .right)
 
 -- the scale of the hill: 1 / √curvature
 abbrev pub scaleOf : Float → Float
@@ -27,7 +28,7 @@ scaleOf curvature = one· ⊘ sqrtOf curvature
 abbrev pub hillOf : ℕ → Float → Float → Float → Float → Float → Float → Hill
 hillOf total mean sd mode log delta goal = record { total = total; mean = mean; sd = sd; mode = mode; log = log; delta = delta; goal = goal }
 
-unfoldable pub spanned : (Float → Eval) → ℕ → Float → Float → Float → Float → Float → Work Eval Point Span
+unfoldable pub spanned : (Float → Eval) → ℕ → Float → Float → Float → Float → Float → Work Eval Point Ends
 spanned here total mean sd mode log delta = do
   g ← goal here mode log delta
   span here (hillOf total mean sd mode log delta g)
@@ -38,4 +39,4 @@ unfoldable pub locatedOf : Posterior → Mode
 locatedOf p = told (toMode p) noPeak (from p (peaked (here p)))
 
 unfoldable pub limitsOf : Posterior → Float → Float → Float → Range
-limitsOf p mode log curvature = told (toRange p) noSpan (from p (spanned (here p) (p .total) (p .mean) (p .sd) mode log (scaleOf curvature)))
+limitsOf p mode log curvature = told (toRange p) noEnds (from p (spanned (here p) (p .total) (p .mean) (p .sd) mode log (scaleOf curvature)))

@@ -17,12 +17,12 @@ use Rattle.mode.specs.Reasons.{ends-reasons, checkEnds-reasons, peak-reasons}
 use Rattle.tail.specs.Reasons.{goal-reasons, span-reasons}
 use Rattle.quadrature.specs.Reasons.{rules-reasons}
 use Rattle.row.specs.Peak.{peaked, spanned}
-use Rattle.row.specs.Share.{spread, share, noShare, toRow, refusalOf, rowOf}
+use Rattle.row.specs.Share.{spread, share, noShare, toRow, nothingOf, rowObjectiveOf}
 
 module _ (here : Float → Eval) where
   peaked-reasons : Stops (Reasoned 5) (peaked here)
   unfolding peaked
-  peaked-reasons = passed (ends-reasons here) (λ e. passed (checkEnds-reasons here e) (λ c. peak-reasons here (c .lo) (c .hi)))
+  peaked-reasons = passed (ends-reasons here) (λ e. passed (checkEnds-reasons here e) (λ c. peak-reasons here (c .left) (c .right)))
 
   spanned-reasons : (total : ℕ) (mean sd mode log delta : Float) → Stops (Reasoned 5) (spanned here total mean sd mode log delta)
   unfolding spanned
@@ -38,11 +38,11 @@ module _ (litter successes total : ℕ) (rule : List Pair) (mean variance : Floa
   unfolding share _>>=_
   share-reasons = chosen (eq variance zero·) (hears (λ v. answers)) (spread-reasons _ rule total mean _ _)
 
-  pub row-domain : (limit : QuadratureEvaluations) (r : ℕ) → rowOf litter successes total rule mean variance limit .end ≡ Domain r → (1 ≤ r) × (r ≤ 5)
-  unfolding rowOf
+  pub row-domain : (limit : QuadratureEvaluations) (r : ℕ) → rowObjectiveOf litter successes total rule mean variance limit .end ≡ Domain r → (1 ≤ r) × (r ≤ 5)
+  unfolding rowObjectiveOf
   row-domain limit r e = metered-domain at (limit .0) 0 r share-reasons e
 
-  pub row-refused : (limit : QuadratureEvaluations) → isRefused (rowOf litter successes total rule mean variance limit .end) ≡ true →
-      rowOf litter successes total rule mean variance limit ≡ refusalOf (rowOf litter successes total rule mean variance limit .end) (rowOf litter successes total rule mean variance limit .used)
-  unfolding rowOf
+  pub row-refused : (limit : QuadratureEvaluations) → isRefused (rowObjectiveOf litter successes total rule mean variance limit .end) ≡ true →
+      rowObjectiveOf litter successes total rule mean variance limit ≡ nothingOf (rowObjectiveOf litter successes total rule mean variance limit .end) (rowObjectiveOf litter successes total rule mean variance limit .used)
+  unfolding rowObjectiveOf
   row-refused limit h = told-refused toRow noShare (metered at (limit .0) 0 (share litter successes total rule mean variance)) h

@@ -22,7 +22,7 @@ use Rattle.quadrature.specs.declared.Integral.{Integral}
 use Rattle.row.specs.declared.share.Row.{Row}
 use Rattle.row.specs.Peak.{peaked, spanned, scaleOf}
 use Rattle.panel.specs.Panel.{noSums}
-use Rattle.quadrature.specs.Quadrature.{rules, integralOf}
+use Rattle.quadrature.specs.Quadrature.{rules, integratedOf}
 
 -- a litter's share of the objective; the Hessian by rows
 pub record Share : Type 0 where
@@ -49,13 +49,13 @@ aloneShare choose v = record { nll = neg choose ⊖ v .log; gradient = gradientO
 abbrev partOf : List Float → ℕ → Float
 partOf s i = getD s i nan ⊘ getD s 0 nan
 
-abbrev pub byTotal : List Float → List Float
-byTotal s = partOf s 0 ∷ partOf s 1 ∷ partOf s 2 ∷ partOf s 3 ∷ partOf s 4 ∷ partOf s 5 ∷ []
+abbrev pub byTotalOf : List Float → List Float
+byTotalOf s = partOf s 0 ∷ partOf s 1 ∷ partOf s 2 ∷ partOf s 3 ∷ partOf s 4 ∷ partOf s 5 ∷ []
 
 -- from the integral's sums; log is the logarithm at the mode, by which they were scaled
 abbrev pub spreadShare : Float → Float → List Float → Float → Share
 spreadShare choose log s refinement =
-    record { nll = neg choose ⊖ log ⊖ logOf (getD s 0 nan); gradient = gradientOf (byTotal s); hessian = hessianOf (byTotal s); refinement = refinement }
+    record { nll = neg choose ⊖ log ⊖ logOf (getD s 0 nan); gradient = gradientOf (byTotalOf s); hessian = hessianOf (byTotalOf s); refinement = refinement }
 
 unfoldable pub spread : (Float → Eval) → List Pair → ℕ → Float → Float → Float → Work Eval Point Share
 spread here rule total mean sd choose = do
@@ -80,20 +80,20 @@ abbrev pub toRow : Ending → ℕ → Share → Row
 toRow e n s = record { end = e; used = record { 0 = n }; nll = s .nll; gradient = s .gradient; hessian = s .hessian; refinement = s .refinement }
 
 -- a refusal: its ending and its count, and zeros
-abbrev pub refusalOf : Ending → QuadratureEvaluations → Row
-refusalOf e n = toRow e (n .0) noShare
+abbrev pub nothingOf : Ending → QuadratureEvaluations → Row
+nothingOf e n = toRow e (n .0) noShare
 
 unfoldable pub aloneRowOf : ℕ → ℕ → ℕ → Float → Float → QuadratureEvaluations → Row
 aloneRowOf litter successes total mean choose limit = told toRow noShare (metered at (limit .0) 0 (do v ← eval (alone litter successes total mean); ret (aloneShare choose v)))
 
 unfoldable pub summedOf : Integral → Float → Float → Row
-summedOf i choose log = cond (isRefused (i .end)) (refusalOf (i .end) (i .p .evaluations)) (toRow Answered (i .p .evaluations .0) (spreadShare choose log (i .sum) (i .refinement)))
+summedOf i choose log = cond (isRefused (i .end)) (nothingOf (i .end) (i .p .evaluations)) (toRow Answered (i .p .evaluations .0) (spreadShare choose log (i .sum) (i .refinement)))
 
 abbrev pub overOf : Posterior → List Pair → Hump → Float → Row
-overOf p rule h choose = summedOf (integralOf p rule h) choose (h .log)
+overOf p rule h choose = summedOf (integratedOf p rule h) choose (h .log)
 
 unfoldable pub spreadOf : Posterior → List Pair → Float → Row
 spreadOf p rule choose = told toRow noShare (from p (spread (here p) rule (p .total) (p .mean) (p .sd) choose))
 
-unfoldable pub rowOf : ℕ → ℕ → ℕ → List Pair → Float → Float → QuadratureEvaluations → Row
-rowOf litter successes total rule mean variance limit = told toRow noShare (metered at (limit .0) 0 (share litter successes total rule mean variance))
+unfoldable pub rowObjectiveOf : ℕ → ℕ → ℕ → List Pair → Float → Float → QuadratureEvaluations → Row
+rowObjectiveOf litter successes total rule mean variance limit = told toRow noShare (metered at (limit .0) 0 (share litter successes total rule mean variance))

@@ -1,8 +1,8 @@
 // The mode of a litter's posterior, and how far out its integral is taken.
 use mode::Mode;
 use posterior::integrand::Posterior;
+use posterior::range::Range;
 use tail::Hill;
-use tail::Range;
 ghost use mathlib.Core.Path.{_≡_};
 ghost use Rattle.row.specs.Peak.{locatedOf, limitsOf};
 
@@ -13,27 +13,15 @@ pub fn located(p: Posterior) -> Mode
     let end = b.end;
     let q = b.p;
     if work::refused(end) {
-        return Mode {
-            end,
-            p: q,
-            at: 0.0,
-            log: 0.0,
-            curvature: 0.0,
-        };
+        return mode::nothing(end, q);
     }
-    let e = mode::bracket::check(q, b.lo, b.hi);
+    let e = mode::bracket::check(q, b.left, b.right);
     let end = e.end;
     let q = e.p;
     if work::refused(end) {
-        return Mode {
-            end,
-            p: q,
-            at: 0.0,
-            log: 0.0,
-            curvature: 0.0,
-        };
+        return mode::nothing(end, q);
     }
-    mode::find(q, e.lo, e.hi)
+    mode::find(q, e.left, e.right)
 }
 
 pub fn limits(p: Posterior, mode: f64, log: f64, curvature: f64) -> Range
@@ -44,12 +32,7 @@ pub fn limits(p: Posterior, mode: f64, log: f64, curvature: f64) -> Range
     let end = g.end;
     let q = g.p;
     if work::refused(end) {
-        return Range {
-            end,
-            p: q,
-            left: 0.0,
-            right: 0.0,
-        };
+        return posterior::range::nothing(end, q);
     }
     let h = Hill {
         total: q.total,
@@ -58,7 +41,7 @@ pub fn limits(p: Posterior, mode: f64, log: f64, curvature: f64) -> Range
         mode,
         log,
         delta,
-        goal: g.goal,
+        goal: g.value,
     };
     tail::bounded(q, h)
 }

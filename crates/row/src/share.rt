@@ -6,7 +6,7 @@ use quadrature::Integral;
 use work::Ending;
 use work::QuadratureEvaluations;
 ghost use mathlib.Core.Path.{_≡_};
-ghost use Rattle.row.specs.Share.{gradientOf, hessianOf, byTotal, refusalOf, aloneRowOf, summedOf, overOf, spreadOf, rowOf};
+ghost use Rattle.row.specs.Share.{gradientOf, hessianOf, byTotalOf, nothingOf, aloneRowOf, summedOf, overOf, spreadOf, rowObjectiveOf};
 
 // A litter's share of the objective. The Hessian stands by rows.
 pub struct Row {
@@ -32,7 +32,7 @@ fn hessian(m: [f64; 6]) -> [f64; 4]
 }
 
 fn by_total(s: [f64; 6]) -> [f64; 6]
-    ensures { λ r. ⌜ r ≡ byTotal s ⌝ }
+    ensures { λ r. ⌜ r ≡ byTotalOf s ⌝ }
 {
     [
         s[0] / s[0],
@@ -44,8 +44,8 @@ fn by_total(s: [f64; 6]) -> [f64; 6]
     ]
 }
 
-fn refusal(end: Ending, used: QuadratureEvaluations) -> Row
-    ensures { λ r. ⌜ r ≡ refusalOf end used ⌝ }
+fn nothing(end: Ending, used: QuadratureEvaluations) -> Row
+    ensures { λ r. ⌜ r ≡ nothingOf end used ⌝ }
 {
     Row {
         end,
@@ -81,7 +81,7 @@ fn alone(
             refinement: 0.0,
         };
     }
-    refusal(Ending::WorkBudget, QuadratureEvaluations(0))
+    nothing(Ending::WorkBudget, QuadratureEvaluations(0))
 }
 
 // The share by the integral, or the integral's refusal.
@@ -91,7 +91,7 @@ fn summed(i: Integral, choose: f64, log: f64) -> Row
     let end = i.end;
     let used = i.p.evaluations;
     if work::refused(end) {
-        return refusal(end, used);
+        return nothing(end, used);
     }
     let s = i.sum;
     let m = by_total(s);
@@ -119,13 +119,13 @@ fn spread(p: Posterior, rule: [Pair; 16], choose: f64) -> Row
     let end = m.end;
     let q = m.p;
     if work::refused(end) {
-        return refusal(end, q.evaluations);
+        return nothing(end, q.evaluations);
     }
     let r = crate::peak::limits(q, m.at, m.log, m.curvature);
     let end = r.end;
     let q = r.p;
     if work::refused(end) {
-        return refusal(end, q.evaluations);
+        return nothing(end, q.evaluations);
     }
     let h = Hump {
         left: r.left,
@@ -145,7 +145,7 @@ pub fn row_objective(
     variance: f64,
     limit: QuadratureEvaluations,
 ) -> Row
-    ensures { λ r. ⌜ r ≡ rowOf litter successes total rule mean variance limit ⌝ }
+    ensures { λ r. ⌜ r ≡ rowObjectiveOf litter successes total rule mean variance limit ⌝ }
 {
     let choose = coefficient::coefficient(successes, total);
     if variance == 0.0 {

@@ -6,7 +6,7 @@ use Prim.Native.Nat.{ℕ, _-_}
 use lib.ListN.{getD}
 use lib.Ieee.{Float, nan}
 use Rattle.num.specs.F64.{_⊕_, _⊖_, _⊗_, zero·, one·, two·}
-use Rattle.num.specs.Helpers.{isFinite}
+use Rattle.num.specs.Helpers.{isFiniteOf}
 use Rattle.work.specs.declared.Ending.the-variants.{Answered, Domain}
 use Rattle.work.specs.Ended.{domain}
 use Rattle.work.specs.Work.{Work, ret, stop, metered}
@@ -39,13 +39,13 @@ bowl x =
     }
 
 unfoldable pub bowlAt : List Float → Work ℕ ℕ Totals
-bowlAt x = cond (isFinite (height x)) (ret (bowl x)) (stop (domain 6))
+bowlAt x = cond (isFiniteOf (height x)) (ret (bowl x)) (stop (domain 6))
 
-unfoldable pub valueOf : List Float → Value
-valueOf x = cond (isFinite (height x)) (record { end = Answered; used = 0; v = bowl x }) (record { end = Domain 6; used = 0; v = noTotals })
+unfoldable pub bowlAtOf : List Float → Value
+bowlAtOf x = cond (isFiniteOf (height x)) (record { end = Answered; used = 0; v = bowl x }) (record { end = Domain 6; used = 0; v = noTotals })
 
-pub valued : (l used : ℕ) (x : List Float) (o : Value) → o ≡ valueOf x → Valued at bowlAt l x used (o .end) (o .used) (o .v)
-unfolding valueOf bowlAt metered
+pub valued : (l used : ℕ) (x : List Float) (o : Value) → o ≡ bowlAtOf x → Valued at bowlAt l x used (o .end) (o .used) (o .v)
+unfolding bowlAtOf bowlAt metered
 valued l used x o e =
     rw e
-    (split (isFinite (height x)) (λ t. record { ending = rw t; counts = rw t; value = rw t }) (λ t. record { ending = rw t; counts = rw t; value = rw t }))
+    (split (isFiniteOf (height x)) (λ t. record { ending = rw t; counts = rw t; value = rw t }) (λ t. record { ending = rw t; counts = rw t; value = rw t }))

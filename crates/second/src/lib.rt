@@ -4,7 +4,7 @@ use stepper::Plan;
 use value::Totals;
 use work::Ending;
 ghost use mathlib.Core.Path.{_≡_};
-ghost use Rattle.second.specs.Second.{at, bowlAt, valueOf};
+ghost use Rattle.second.specs.Second.{at, bowlAt, bowlAtOf};
 ghost use Rattle.course.specs.Drives.{courseOf};
 
 pub struct Value {
@@ -15,7 +15,7 @@ pub struct Value {
 
 // At (x, y): the value is (x - 1)^2 + y^2; refused where it is not finite.
 fn bowl_at(x: [f64; 4]) -> Value
-    ensures { λ r. ⌜ r ≡ valueOf x ⌝ }
+    ensures { λ r. ⌜ r ≡ bowlAtOf x ⌝ }
 {
     let a = x[0] - 1.0;
     let b = x[2];
@@ -24,12 +24,7 @@ fn bowl_at(x: [f64; 4]) -> Value
         return Value {
             end: Ending::Domain(6),
             used: 0,
-            v: Totals {
-                nll: 0.0,
-                gradient: [0.0; 4],
-                hessian: [0.0; 16],
-                refinement: 0.0,
-            },
+            v: value::nothing(),
         };
     }
     Value {

@@ -10,7 +10,7 @@ use lib.Ieee.{Float, nan, binary64, lt, le, eq, isNan, fits}
 use lib.Ieee.Bits.{ofBits-fits}
 use lib.Ieee.Fits.{cond-fits, add-fits}
 use Rattle.num.specs.F64.{_⊕_, _⊗_, zero·}
-use Rattle.num.specs.Helpers.{absOf, maxOf, clampOf, isFinite}
+use Rattle.num.specs.Helpers.{absOf, maxOf, clampOf, isFiniteOf}
 use Rattle.finite.specs.Finite.{and-first, and-second}
 use Rattle.order.specs.Numbers.{zero-finite}
 use Rattle.order.specs.Negation.{neg-finite}
@@ -18,10 +18,10 @@ use Rattle.order.specs.Sums.{add-swap, add-number}
 use Rattle.order.specs.Products.{mul-number}
 use Rattle.order.specs.Choices.{clamp-not-below, clamp-not-above, abs-finite, max-finite}
 use Rattle.order.specs.Boxes.{Four, four, FiniteFour, Box, Inside}
-use Rattle.step.specs.Step.{projectAt, projectOf, normOf, finiteFour, dotOf, negated, safeOf, directionOf, candidateOf}
+use Rattle.step.specs.Step.{projectAtOf, projectOf, normOf, finiteFourOf, dotOf, negated, safeOf, directionOf, candidateOf}
 
 -- ---- the projected gradient
-at-finite : (x g lo hi : Float) → isFinite g ≡ true → isFinite (projectAt x g lo hi) ≡ true
+at-finite : (x g lo hi : Float) → isFiniteOf g ≡ true → isFiniteOf (projectAtOf x g lo hi) ≡ true
 at-finite x g lo hi i =
     cases (eq x lo && lt zero· g) (λ t. rw t zero-finite)
     (λ t. cases (eq x hi && lt g zero·) (λ u. rw (t, u) zero-finite) (λ u. rw (t, u) i))
@@ -29,16 +29,16 @@ at-finite x g lo hi i =
 pub project-finite : (x g lo hi : List Float) → FiniteFour g → FiniteFour (projectOf x g lo hi)
 unfolding projectOf
 project-finite x g lo hi f =
-    four (λ i. isFinite (getD (projectOf x g lo hi) i nan) ≡ true) (at-finite _ _ _ _ (f 0 (lit< tt))) (at-finite _ _ _ _ (f 1 (lit< tt))) (at-finite _ _ _ _ (f 2 (lit< tt))) (at-finite _ _ _ _ (f 3 (lit< tt)))
+    four (λ i. isFiniteOf (getD (projectOf x g lo hi) i nan) ≡ true) (at-finite _ _ _ _ (f 0 (lit< tt))) (at-finite _ _ _ _ (f 1 (lit< tt))) (at-finite _ _ _ _ (f 2 (lit< tt))) (at-finite _ _ _ _ (f 3 (lit< tt)))
 
-at-fits : (x g lo hi : Float) → T (fits binary64 g) → T (fits binary64 (projectAt x g lo hi))
+at-fits : (x g lo hi : Float) → T (fits binary64 g) → T (fits binary64 (projectAtOf x g lo hi))
 at-fits x g lo hi f = cond-fits binary64 (eq x lo && lt zero· g) _ _ (ofBits-fits binary64 0) (cond-fits binary64 (eq x hi && lt g zero·) _ _ (ofBits-fits binary64 0) f)
 
 -- ---- the norm of a gradient whose entries are f64
-size-finite : (x g lo hi : Float) → isFinite g ≡ true → T (fits binary64 g) → isFinite (absOf (projectAt x g lo hi)) ≡ true
-size-finite x g lo hi i f = abs-finite (projectAt x g lo hi) (at-finite x g lo hi i) (at-fits x g lo hi f)
+size-finite : (x g lo hi : Float) → isFiniteOf g ≡ true → T (fits binary64 g) → isFiniteOf (absOf (projectAtOf x g lo hi)) ≡ true
+size-finite x g lo hi i f = abs-finite (projectAtOf x g lo hi) (at-finite x g lo hi i) (at-fits x g lo hi f)
 
-pub norm-finite : (x g lo hi : List Float) → FiniteFour g → ((i : ℕ) → T (fits binary64 (getD g i nan))) → isFinite (normOf (projectOf x g lo hi)) ≡ true
+pub norm-finite : (x g lo hi : List Float) → FiniteFour g → ((i : ℕ) → T (fits binary64 (getD g i nan))) → isFiniteOf (normOf (projectOf x g lo hi)) ≡ true
 unfolding normOf projectOf
 norm-finite x g lo hi f w =
     max-finite _ _ (max-finite _ _ (max-finite _ _ (max-finite _ _ zero-finite (size-finite _ _ _ _ (f 0 (lit< tt)) (w 0))) (size-finite _ _ _ _ (f 1 (lit< tt)) (w 1))) (size-finite _ _ _ _ (f 2 (lit< tt)) (w 2))) (size-finite _ _ _ _ (f 3 (lit< tt)) (w 3))
@@ -46,13 +46,13 @@ norm-finite x g lo hi f w =
 -- ---- the direction
 negated-finite : (g : List Float) → FiniteFour g → FiniteFour (negated g)
 negated-finite g f =
-    four (λ i. isFinite (getD (negated g) i nan) ≡ true) (neg-finite _ ∙ f 0 (lit< tt)) (neg-finite _ ∙ f 1 (lit< tt)) (neg-finite _ ∙ f 2 (lit< tt)) (neg-finite _ ∙ f 3 (lit< tt))
+    four (λ i. isFiniteOf (getD (negated g) i nan) ≡ true) (neg-finite _ ∙ f 0 (lit< tt)) (neg-finite _ ∙ f 1 (lit< tt)) (neg-finite _ ∙ f 2 (lit< tt)) (neg-finite _ ∙ f 3 (lit< tt))
 
-each-of-four : (d : List Float) → finiteFour d ≡ true → FiniteFour d
+each-of-four : (d : List Float) → finiteFourOf d ≡ true → FiniteFour d
 each-of-four d h =
-    let second = and-second (isFinite (getD d 0 nan)) _ h in
-    let third = and-second (isFinite (getD d 1 nan)) _ second in
-    four (λ i. isFinite (getD d i nan) ≡ true) (and-first _ _ h) (and-first _ _ second) (and-first _ _ third) (and-second (isFinite (getD d 2 nan)) _ third)
+    let second = and-second (isFiniteOf (getD d 0 nan)) _ h in
+    let third = and-second (isFiniteOf (getD d 1 nan)) _ second in
+    four (λ i. isFiniteOf (getD d i nan) ≡ true) (and-first _ _ h) (and-first _ _ second) (and-first _ _ third) (and-second (isFiniteOf (getD d 2 nan)) _ third)
 
 not-first : (a b : Bool) → (not a || b) ≡ false → a ≡ true
 not-first true b h = refl
@@ -60,18 +60,18 @@ not-first false b h = cc
 
 safe-finite : (g d : List Float) → FiniteFour g → FiniteFour (safeOf g d)
 unfolding safeOf
-safe-finite g d f = cases (not (finiteFour d) || le zero· (dotOf g d)) (λ t. rw t (negated-finite g f)) (λ t. rw t (each-of-four d (not-first (finiteFour d) (le zero· (dotOf g d)) t)))
+safe-finite g d f = cases (not (finiteFourOf d) || le zero· (dotOf g d)) (λ t. rw t (negated-finite g f)) (λ t. rw t (each-of-four d (not-first (finiteFourOf d) (le zero· (dotOf g d)) t)))
 
 pub direction-finite : (x g hessian lo hi : List Float) → FiniteFour g → FiniteFour (directionOf x g hessian lo hi)
 unfolding directionOf
 direction-finite x g hessian lo hi f = safe-finite g _ f
 
 -- ---- the candidate
-moved-number : (x alpha d : Float) → isFinite x ≡ true → isFinite alpha ≡ true → isFinite d ≡ true → isNan (x ⊕ alpha ⊗ d) ≡ false
+moved-number : (x alpha d : Float) → isFiniteOf x ≡ true → isFiniteOf alpha ≡ true → isFiniteOf d ≡ true → isNan (x ⊕ alpha ⊗ d) ≡ false
 moved-number x alpha d i a j = rw (add-swap x (alpha ⊗ d)) (add-number (alpha ⊗ d) x (mul-number alpha d a j) i)
 
 module _ (lo hi x d : List Float) (alpha : Float) where
-  module _ (b : Box lo hi) (f : FiniteFour x) (g : FiniteFour d) (a : isFinite alpha ≡ true) (i : ℕ) (l : i < 4) where
+  module _ (b : Box lo hi) (f : FiniteFour x) (g : FiniteFour d) (a : isFiniteOf alpha ≡ true) (i : ℕ) (l : i < 4) where
     abbrev moved : Float
     moved = getD x i nan ⊕ alpha ⊗ getD d i nan
 
@@ -81,7 +81,7 @@ module _ (lo hi x d : List Float) (alpha : Float) where
     high : le (clampOf moved (getD lo i nan) (getD hi i nan)) (getD hi i nan) ≡ true
     high = clamp-not-above _ _ _ (moved-number (getD x i nan) alpha (getD d i nan) (f i l) a (g i l)) (b .ordered i l)
 
-  pub candidate-inside : Box lo hi → FiniteFour x → FiniteFour d → isFinite alpha ≡ true → Inside lo hi (candidateOf x d alpha lo hi)
+  pub candidate-inside : Box lo hi → FiniteFour x → FiniteFour d → isFiniteOf alpha ≡ true → Inside lo hi (candidateOf x d alpha lo hi)
   unfolding candidateOf
   candidate-inside b f g a =
       record {

@@ -5,19 +5,19 @@ use Prim.Native.Nat.{ℕ, _+_, _*_}
 use lib.ListN.{getD}
 use lib.Ieee.{Float, nan, neg, lt, le, eq}
 use Rattle.num.specs.F64.{_⊕_, _⊖_, _⊗_, _⊘_, bits, zero·, half·, one·, two·}
-use Rattle.num.specs.Helpers.{absOf, maxOf, clampOf, isFinite, sumOf}
+use Rattle.num.specs.Helpers.{absOf, maxOf, clampOf, isFiniteOf, sumOf}
 use Rattle.elementary.specs.Hypot.{hypotOf}
 use Rattle.step.specs.declared.Move.{Move}
 
 -- a coordinate's gradient, or zero where it points out of the box
-abbrev pub projectAt : Float → Float → Float → Float → Float
-projectAt x g lo hi = cond (eq x lo && lt zero· g) zero· (cond (eq x hi && lt g zero·) zero· g)
+abbrev pub projectAtOf : Float → Float → Float → Float → Float
+projectAtOf x g lo hi = cond (eq x lo && lt zero· g) zero· (cond (eq x hi && lt g zero·) zero· g)
 
 abbrev each : List Float → ℕ → Float
 each v i = getD v i nan
 
 abbrev projected : List Float → List Float → List Float → List Float → ℕ → Float
-projected x g lo hi i = projectAt (each x i) (each g i) (each lo i) (each hi i)
+projected x g lo hi i = projectAtOf (each x i) (each g i) (each lo i) (each hi i)
 
 unfoldable pub projectOf : List Float → List Float → List Float → List Float → List Float
 projectOf x g lo hi = let at = projected x g lo hi in at 0 ∷ at 1 ∷ at 2 ∷ at 3 ∷ []
@@ -45,7 +45,7 @@ newtonOf a b c g h =
     let p = a ⊕ d in
     let q = b ⊕ d in
     let det = p ⊗ q ⊖ c ⊗ c in
-    cond (lt zero· det && isFinite det) (solvedOf p q c g h det) (record { mean = neg g; variance = neg h })
+    cond (lt zero· det && isFiniteOf det) (solvedOf p q c g h det) (record { mean = neg g; variance = neg h })
 
 -- a coordinate that is held by its bound
 abbrev pub heldOf : Float → Float → Float → Float → Bool
@@ -61,15 +61,15 @@ aloneOf first second a b g h m =
 abbrev held : List Float → List Float → List Float → List Float → ℕ → Bool
 held x g lo hi i = heldOf (each x i) (each g i) (each lo i) (each hi i)
 
-abbrev pub groupStep : List Float → List Float → List Float → List Float → List Float → ℕ → Move
-groupStep x g hessian lo hi i =
+abbrev pub groupStepOf : List Float → List Float → List Float → List Float → List Float → ℕ → Move
+groupStepOf x g hessian lo hi i =
     let a = each hessian (5 * i) in
     let b = each hessian (5 * i + 10) in
     let c = each hessian (5 * i + 2) in
     aloneOf (held x g lo hi i) (held x g lo hi (i + 2)) a b (each g i) (each g (i + 2)) (newtonOf a b c (each g i) (each g (i + 2)))
 
-abbrev pub finiteFour : List Float → Bool
-finiteFour d = isFinite (each d 0) && (isFinite (each d 1) && (isFinite (each d 2) && isFinite (each d 3)))
+abbrev pub finiteFourOf : List Float → Bool
+finiteFourOf d = isFiniteOf (each d 0) && (isFiniteOf (each d 1) && (isFiniteOf (each d 2) && isFiniteOf (each d 3)))
 
 abbrev pub dotOf : List Float → List Float → Float
 dotOf g d = sumOf (each g 0 ⊗ each d 0 ∷ each g 1 ⊗ each d 1 ∷ each g 2 ⊗ each d 2 ∷ each g 3 ⊗ each d 3 ∷ [])
@@ -79,13 +79,13 @@ negated g = neg (each g 0) ∷ neg (each g 1) ∷ neg (each g 2) ∷ neg (each g
 
 -- a direction that is not finite or not downhill gives way to steepest descent
 unfoldable pub safeOf : List Float → List Float → List Float
-safeOf g d = cond (not (finiteFour d) || le zero· (dotOf g d)) (negated g) d
+safeOf g d = cond (not (finiteFourOf d) || le zero· (dotOf g d)) (negated g) d
 
 abbrev pub joined : Move → Move → List Float
 joined a b = a .mean ∷ b .mean ∷ a .variance ∷ b .variance ∷ []
 
 unfoldable pub directionOf : List Float → List Float → List Float → List Float → List Float → List Float
-directionOf x g hessian lo hi = safeOf g (joined (groupStep x g hessian lo hi 0) (groupStep x g hessian lo hi 1))
+directionOf x g hessian lo hi = safeOf g (joined (groupStepOf x g hessian lo hi 0) (groupStepOf x g hessian lo hi 1))
 
 abbrev candidateAt : List Float → List Float → Float → List Float → List Float → ℕ → Float
 candidateAt x d alpha lo hi i = clampOf (each x i ⊕ alpha ⊗ each d i) (each lo i) (each hi i)

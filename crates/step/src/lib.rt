@@ -1,7 +1,7 @@
 // `project`, `norm`, the direction and the candidate of the source. Coordinates are two means, then two variances; the Hessian stands by rows.
 ghost use mathlib.Core.Path.{_≡_};
 ghost use Prim.Native.Nat.{_<_};
-ghost use Rattle.step.specs.Step.{projectAt, projectOf, normOf, dampingOf, newtonOf, heldOf, aloneOf, groupStep, finiteFour, dotOf, safeOf, directionOf, candidateOf, slopeOf, stillOf};
+ghost use Rattle.step.specs.Step.{projectAtOf, projectOf, normOf, dampingOf, newtonOf, heldOf, aloneOf, groupStepOf, finiteFourOf, dotOf, safeOf, directionOf, candidateOf, slopeOf, stillOf};
 
 // A group's step.
 pub struct Move {
@@ -10,7 +10,7 @@ pub struct Move {
 }
 
 fn project_at(x: f64, g: f64, lo: f64, hi: f64) -> f64
-    ensures { λ r. ⌜ r ≡ projectAt x g lo hi ⌝ }
+    ensures { λ r. ⌜ r ≡ projectAtOf x g lo hi ⌝ }
 {
     if num::both(x == lo, g > 0.0) {
         return 0.0;
@@ -100,7 +100,7 @@ fn group_step(
     i: usize,
 ) -> Move
     requires { ⌜ i < 2 ⌝ }
-    ensures { λ r. ⌜ r ≡ groupStep x g hessian lo hi i ⌝ }
+    ensures { λ r. ⌜ r ≡ groupStepOf x g hessian lo hi i ⌝ }
 {
     let j = i + 2;
     let k = 5 * i;
@@ -114,7 +114,7 @@ fn group_step(
 }
 
 fn finite_four(d: [f64; 4]) -> bool
-    ensures { λ r. ⌜ r ≡ finiteFour d ⌝ }
+    ensures { λ r. ⌜ r ≡ finiteFourOf d ⌝ }
 {
     let a = num::both(num::is_finite(d[2]), num::is_finite(d[3]));
     num::both(num::is_finite(d[0]), num::both(num::is_finite(d[1]), a))

@@ -16,12 +16,12 @@ use Rattle.descent.specs.Status.{takenOf}
 use Rattle.value.specs.declared.Totals.{Totals}
 use Rattle.step.specs.Step.{slopeOf, stillOf}
 use Rattle.trial.specs.declared.watch.Watch.{Watch}
-use Rattle.trial.specs.Judged.{normAt, idleOf, judgedOf}
+use Rattle.trial.specs.Judged.{normAtOf, idleOf, judgedOf}
 use Rattle.trial.specs.Watch.{notedOf}
 use Rattle.stepper.specs.declared.Plan.{Plan}
 use Rattle.stepper.specs.declared.Stepper.{Stepper}
 use Rattle.stepper.specs.declared.Offer.{Offer}
-use Rattle.stepper.specs.Machine.{directionAt, oneMore, overOf, lineOf, halvedOf, awaitingOf, failedOf, nextOf, offeredOf, proposeFrom, proposeOf, arriveOf, tellOf}
+use Rattle.stepper.specs.Machine.{directionAtOf, oneMoreOf, overOf, lineOf, halvedOf, awaitingOf, failedOf, nextOf, offeredOf, proposeFrom, proposeOf, arriveOf, tellOf}
 
 chosen : {A : Type 0} (t : Bool) → t ≡ true → (x y : A) {r : A} → cond t x y ≡ r → x ≡ r
 chosen t u x y w = rw u at w
@@ -63,7 +63,7 @@ module _ (p : Plan) (whole : Stepper) (n : ℕ) (s : Stepper) (i : proposeFrom p
       propose-turn y = left (o .wants) y _ _ (rw (one-left n h, lt-leb _ _ g, ← e) at i)
 
 -- ---- at a point with its value
-module _ (p : Plan) (x : List Float) (v : Totals) (e k : ℕ) (w : Watch) (d : List Float) (s : Stepper) (m : Float) (r : Stepper) (f : d ≡ directionAt (p .lo) (p .hi) x v) (g : s ≡ lineOf d x v e k w) (h : m ≡ normAt (p .lo) (p .hi) x v) where
+module _ (p : Plan) (x : List Float) (v : Totals) (e k : ℕ) (w : Watch) (d : List Float) (s : Stepper) (m : Float) (r : Stepper) (f : d ≡ directionAtOf (p .lo) (p .hi) x v) (g : s ≡ lineOf d x v e k w) (h : m ≡ normAtOf (p .lo) (p .hi) x v) where
   pub arrive-near : le m (p .tolerance) ≡ true → r ≡ overOf Converged s w → r ≡ arriveOf p x v e k w
   unfolding arriveOf
   arrive-near t u = rw (← f, ← h, t) (rw g at u)
@@ -87,7 +87,7 @@ module _ (p : Plan) (s : Stepper) (c : Totals) (r : Stepper) where
   tell-start y u = else (s .phase .begun) _ _ r y u
 
   module _ (y : s .phase .begun ≡ true) (t : Trial) (b : Bool) (e : t ≡ judgedOf (p .lo) (p .hi) (s .x) (s .v) (s .next) c) (f : b ≡ takenOf t) where
-    pub tell-hit : b ≡ true → (k : ℕ) (w : Watch) → k ≡ oneMore (s .iterations .0) (p .turns .0) → w ≡ notedOf t (s .watch) → r ≡ arriveOf p (s .next) c (s .evaluations .0) k w → r ≡ tellOf p s c
+    pub tell-hit : b ≡ true → (k : ℕ) (w : Watch) → k ≡ oneMoreOf (s .iterations .0) (p .turns .0) → w ≡ notedOf t (s .watch) → r ≡ arriveOf p (s .next) c (s .evaluations .0) k w → r ≡ tellOf p s c
     unfolding tellOf
     tell-hit z k w g h u = then (s .phase .begun) _ _ r y (rw (← e, ← f, z, ← g, ← h) u)
 

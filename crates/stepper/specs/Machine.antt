@@ -16,22 +16,22 @@ use Rattle.value.specs.Totals.{noTotals}
 use Rattle.step.specs.Step.{projectOf, directionOf, candidateOf, slopeOf, stillOf}
 use Rattle.trial.specs.declared.watch.Since.the-variants.{Arrived}
 use Rattle.trial.specs.declared.watch.Watch.{Watch}
-use Rattle.trial.specs.Judged.{normAt, idleOf, judgedOf}
+use Rattle.trial.specs.Judged.{normAtOf, idleOf, judgedOf}
 use Rattle.trial.specs.Watch.{notedOf}
 use Rattle.stepper.specs.declared.Plan.{Plan}
 use Rattle.stepper.specs.declared.Stepper.{Stepper}
 use Rattle.stepper.specs.declared.Offer.{Offer}
 
-abbrev pub directionAt : List Float → List Float → List Float → Totals → List Float
-directionAt lo hi x v = directionOf x (projectOf x (v .gradient) lo hi) (v .hessian) lo hi
+abbrev pub directionAtOf : List Float → List Float → List Float → Totals → List Float
+directionAtOf lo hi x v = directionOf x (projectOf x (v .gradient) lo hi) (v .hessian) lo hi
 
 -- the descent of crates/descent in four coordinates
 abbrev pub problemOf : Plan → Problem (List Float) Totals (List Float)
 problemOf p =
     record {
       nll = λ v. v .nll;
-      norm = normAt (p .lo) (p .hi);
-      direction = directionAt (p .lo) (p .hi);
+      norm = normAtOf (p .lo) (p .hi);
+      direction = directionAtOf (p .lo) (p .hi);
       candidate = λ x d alpha. candidateOf x d alpha (p .lo) (p .hi);
       slope = λ x v next. slopeOf (v .gradient) next x;
       still = stillOf;
@@ -41,8 +41,8 @@ problemOf p =
     }
 
 -- ---- the states
-unfoldable pub oneMore : ℕ → ℕ → ℕ
-oneMore n most = cond (ltb n most) (n + 1) n
+unfoldable pub oneMoreOf : ℕ → ℕ → ℕ
+oneMoreOf n most = cond (ltb n most) (n + 1) n
 
 abbrev pub stateOf : Status → Bool → List Float → List Float → Totals → ℕ → ℕ → List Float → Float → ℕ → Watch → Stepper
 stateOf status begun next x v e k way alpha left w =
@@ -75,7 +75,7 @@ halvedOf s t =
 
 abbrev pub awaitingOf : Stepper → ℕ → ℕ → List Float → Stepper
 awaitingOf s most left next =
-    stateOf (s .phase .status) (s .phase .begun) next (s .x) (s .v) (oneMore (s .evaluations .0) most) (s .iterations .0) (s .way) (s .alpha) left (s .watch)
+    stateOf (s .phase .status) (s .phase .begun) next (s .x) (s .v) (oneMoreOf (s .evaluations .0) most) (s .iterations .0) (s .way) (s .alpha) left (s .watch)
 
 unfoldable pub failedOf : ℕ → ℕ → Status
 failedOf most e = cond (leb most e) EvaluationLimit LineSearchFailed
@@ -110,8 +110,8 @@ module _ (p : Plan) where
   -- at a point with its value: the three tests at the loop's head, and a search
   unfoldable pub arriveOf : List Float → Totals → ℕ → ℕ → Watch → Stepper
   arriveOf x v e k w =
-      let s = lineOf (directionAt (p .lo) (p .hi) x v) x v e k w in
-      cond (le (normAt (p .lo) (p .hi) x v) (p .tolerance)) (overOf Converged s w)
+      let s = lineOf (directionAtOf (p .lo) (p .hi) x v) x v e k w in
+      cond (le (normAtOf (p .lo) (p .hi) x v) (p .tolerance)) (overOf Converged s w)
       (cond (leb (p .most .0) e) (overOf EvaluationLimit s w)
       (cond (leb (p .turns .0) k) (overOf IterationLimit s w)
       (proposeOf s)))
@@ -121,6 +121,6 @@ module _ (p : Plan) where
   tellOf s c =
       cond (s .phase .begun)
       (let t = judgedOf (p .lo) (p .hi) (s .x) (s .v) (s .next) c in
-      cond (takenOf t) (arriveOf (s .next) c (s .evaluations .0) (oneMore (s .iterations .0) (p .turns .0)) (notedOf t (s .watch)))
+      cond (takenOf t) (arriveOf (s .next) c (s .evaluations .0) (oneMoreOf (s .iterations .0) (p .turns .0)) (notedOf t (s .watch)))
       (proposeOf (halvedOf s t)))
       (arriveOf (s .next) c (s .evaluations .0) (s .iterations .0) (s .watch))

@@ -20,11 +20,11 @@ use Rattle.descent.specs.Descent.{Asked, to, nowhere, Tried, Searched, Descende
 use Rattle.value.specs.declared.Totals.{Totals}
 use Rattle.step.specs.Step.{slopeOf, candidateOf, stillOf}
 use Rattle.trial.specs.declared.watch.Watch.{Watch}
-use Rattle.trial.specs.Judged.{normAt, idleOf, judgedOf}
+use Rattle.trial.specs.Judged.{normAtOf, idleOf, judgedOf}
 use Rattle.trial.specs.Watch.{notedOf, watchOf}
 use Rattle.stepper.specs.declared.Plan.{Plan}
 use Rattle.stepper.specs.declared.Stepper.{Stepper}
-use Rattle.stepper.specs.Machine.{directionAt, problemOf, oneMore, stateOf, beginOf, lineOf, halvedOf, failedOf, nextOf, slopeAt, offeredOf, proposeFrom, proposeOf, arriveOf, tellOf}
+use Rattle.stepper.specs.Machine.{directionAtOf, problemOf, oneMoreOf, stateOf, beginOf, lineOf, halvedOf, failedOf, nextOf, slopeAt, offeredOf, proposeFrom, proposeOf, arriveOf, tellOf}
 
 abbrev pub Rest : Type 0
 Rest = Work (Asked (List Float)) Totals (Descended (List Float) Totals)
@@ -38,8 +38,8 @@ pub data Stands (p : Plan) (n : ℕ) : Stepper → Rest → Type 0 where
   awaits : {s : Stepper} {ts : List Trial} {k : Totals → Rest} → awaitsOf (s .phase .status) ≡ true → s .watch ≡ watchOf n ts → ((c : Totals) → Stands p n (tellOf p s c) (k c)) → Stands p n s (ask (record { at = s .next; begun = s .phase .begun; trials = ts }) k)
 
 -- ---- the proof
-one-more : (n most : ℕ) → n < most → oneMore n most ≡ n + 1
-unfolding oneMore
+one-more : (n most : ℕ) → n < most → oneMoreOf n most ≡ n + 1
+unfolding oneMoreOf
 one-more n most h = rw (lt-ltb n most h)
 
 no-status : (most e : ℕ) → awaitsOf (failedOf most e) ≡ false
@@ -84,7 +84,7 @@ module _ (p : Plan) (n : ℕ) where
         split (decreases (v .nll) slope (c .nll))
         (λ t. rw (t, one-more k (p .turns .0) h) (go next c (e + 1) (_ ∷ ts) _ (noting n _ ts w i)))
         (λ t.
-        split (rounds (v .nll) slope (c .nll) (normAt (p .lo) (p .hi) x v) (normAt (p .lo) (p .hi) next c))
+        split (rounds (v .nll) slope (c .nll) (normAtOf (p .lo) (p .hi) x v) (normAtOf (p .lo) (p .hi) next c))
         (λ u. rw (t, u, one-more k (p .turns .0) h) (go next c (e + 1) (_ ∷ ts) _ (noting n _ ts w i)))
         (λ u. rw (t, u) (on next (e + 1) (alpha ⊗ half·) j (_ ∷ ts) _ (noting n _ ts w i))))
 
@@ -104,17 +104,17 @@ module _ (p : Plan) (n : ℕ) where
   arrives : (m k : ℕ) → k + m ≡ p .turns .0 → Arrives m k
   unfolding arriveOf proposeOf descend
   arrives zero k l x v e ts w i =
-      split (le (normAt (p .lo) (p .hi) x v) (p .tolerance)) (λ t. rw t (over ts refl i))
+      split (le (normAtOf (p .lo) (p .hi) x v) (p .tolerance)) (λ t. rw t (over ts refl i))
       (λ t.
       split (leb (p .most .0) e) (λ u. rw (t, u) (over ts refl i))
       (λ u. rw (t, u, le-leb (p .turns .0) k (omega arith)) (over ts refl i)))
   arrives (suc m) k l x v e ts w i =
-      split (le (normAt (p .lo) (p .hi) x v) (p .tolerance)) (λ t. rw t (over ts refl i))
+      split (le (normAtOf (p .lo) (p .hi) x v) (p .tolerance)) (λ t. rw t (over ts refl i))
       (λ t.
       split (leb (p .most .0) e) (λ u. rw (t, u) (over ts refl i))
       (λ u.
       rw (t, u, lt-leb (p .turns .0) k (omega arith))
-      (proposes m x v k (directionAt (p .lo) (p .hi) x v) (arrives m (k + 1) (omega arith)) (omega arith) 48 x e one· 48 ts w i)))
+      (proposes m x v k (directionAtOf (p .lo) (p .hi) x v) (arrives m (k + 1) (omega arith)) (omega arith) 48 x e one· 48 ts w i)))
 
   -- ---- the theorem: told the values that the descent asks for, the start comes to the descent's answer
   pub begins : (x : List Float) → Stands p n (beginOf x n) (descent (problemOf p) x)
@@ -122,49 +122,49 @@ module _ (p : Plan) (n : ℕ) where
   begins x = awaits refl refl (λ c. arrives (p .turns .0) 0 (omega arith) x c 1 [] _ refl)
 
 -- ---- how long it goes on: each value told leaves less
-abbrev pub spanOf : Plan → Stepper → ℕ
-spanOf p s = cond (awaitsOf (s .phase .status)) (suc (p .most .0 - s .evaluations .0)) 0
+abbrev pub remainingOf : Plan → Stepper → ℕ
+remainingOf p s = cond (awaitsOf (s .phase .status)) (suc (p .most .0 - s .evaluations .0)) 0
 
 module _ (p : Plan) where
-  record Spans (m : ℕ) (s : Stepper) : Type 0 where
-    within : spanOf p s ≤ m
+  record Remains (m : ℕ) (s : Stepper) : Type 0 where
+    within : remainingOf p s ≤ m
 
-  either : (b : Bool) {x y : Stepper} {m : ℕ} → Spans m x → Spans m y → Spans m (cond b x y)
+  either : (b : Bool) {x y : Stepper} {m : ℕ} → Remains m x → Remains m y → Remains m (cond b x y)
   either true h k = h
   either false h k = k
 
-  stopped : {s : Stepper} {m : ℕ} → awaitsOf (s .phase .status) ≡ false → Spans m s
+  stopped : {s : Stepper} {m : ℕ} → awaitsOf (s .phase .status) ≡ false → Remains m s
   stopped t = record { within = rw t zero-le }
 
   awaited : (a : Bool) (e : ℕ) → e < p .most .0 → cond a (suc (p .most .0 - (e + 1))) 0 ≤ p .most .0 - e
   awaited true e h = omega arith
   awaited false e h = zero-le
 
-  propose-span : (j : ℕ) (s : Stepper) → Spans (p .most .0 - s .evaluations .0) (proposeFrom p j s)
+  propose-remains : (j : ℕ) (s : Stepper) → Remains (p .most .0 - s .evaluations .0) (proposeFrom p j s)
   unfolding proposeFrom offeredOf
-  propose-span zero s = stopped (no-status (p .most .0) (s .evaluations .0))
-  propose-span (suc j) s =
+  propose-remains zero s = stopped (no-status (p .most .0) (s .evaluations .0))
+  propose-remains (suc j) s =
       split (leb (p .most .0) (s .evaluations .0)) (λ t. rw t (stopped (no-status (p .most .0) (s .evaluations .0))))
       (λ t.
       let h = leb-false (p .most .0) (s .evaluations .0) t in
       split (le zero· (slopeAt p s) || stillOf (nextOf p s) (s .x))
-      (λ u. rw (t, u) (propose-span j (halvedOf s (idleOf (slopeAt p s)))))
+      (λ u. rw (t, u) (propose-remains j (halvedOf s (idleOf (slopeAt p s)))))
       (λ u. rw (t, u, one-more (s .evaluations .0) (p .most .0) h) (record { within = awaited (awaitsOf (s .phase .status)) (s .evaluations .0) h })))
 
-  arrive-span : (x : List Float) (v : Totals) (e k : ℕ) (w : Watch) → Spans (p .most .0 - e) (arriveOf p x v e k w)
+  arrive-remains : (x : List Float) (v : Totals) (e k : ℕ) (w : Watch) → Remains (p .most .0 - e) (arriveOf p x v e k w)
   unfolding arriveOf proposeOf
-  arrive-span x v e k w =
-      either (le (normAt (p .lo) (p .hi) x v) (p .tolerance)) (stopped refl)
+  arrive-remains x v e k w =
+      either (le (normAtOf (p .lo) (p .hi) x v) (p .tolerance)) (stopped refl)
       (either (leb (p .most .0) e) (stopped refl)
       (either (leb (p .turns .0) k) (stopped refl)
-      (propose-span 48 (lineOf (directionAt (p .lo) (p .hi) x v) x v e k w))))
+      (propose-remains 48 (lineOf (directionAtOf (p .lo) (p .hi) x v) x v e k w))))
 
-  tell-span : (s : Stepper) (c : Totals) → Spans (p .most .0 - s .evaluations .0) (tellOf p s c)
+  tell-remains : (s : Stepper) (c : Totals) → Remains (p .most .0 - s .evaluations .0) (tellOf p s c)
   unfolding tellOf proposeOf
-  tell-span s c =
+  tell-remains s c =
       let t = judgedOf (p .lo) (p .hi) (s .x) (s .v) (s .next) c in
-      either (s .phase .begun) (either (takenOf t) (arrive-span (s .next) c (s .evaluations .0) _ _) (propose-span (s .left) (halvedOf s t)))
-      (arrive-span (s .next) c (s .evaluations .0) _ _)
+      either (s .phase .begun) (either (takenOf t) (arrive-remains (s .next) c (s .evaluations .0) _ _) (propose-remains (s .left) (halvedOf s t)))
+      (arrive-remains (s .next) c (s .evaluations .0) _ _)
 
-  pub tell-less : (s : Stepper) (c : Totals) → awaitsOf (s .phase .status) ≡ true → spanOf p (tellOf p s c) < spanOf p s
-  tell-less s c t = rw t (omega (arith, tell-span s c .within))
+  pub tell-less : (s : Stepper) (c : Totals) → awaitsOf (s .phase .status) ≡ true → remainingOf p (tellOf p s c) < remainingOf p s
+  tell-less s c t = rw t (omega (arith, tell-remains s c .within))

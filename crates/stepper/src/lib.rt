@@ -9,7 +9,7 @@ use work::FitEvaluations;
 use work::Iterations;
 ghost use mathlib.Core.Path.{_≡_};
 ghost use Rattle.descent.specs.Status.{awaitsOf};
-ghost use Rattle.stepper.specs.Machine.{directionAt, oneMore, beginOf, overOf, failedOf, lineOf, halvedOf, awaitingOf, offeredOf, proposeOf, arriveOf, tellOf};
+ghost use Rattle.stepper.specs.Machine.{directionAtOf, oneMoreOf, beginOf, overOf, failedOf, lineOf, halvedOf, awaitingOf, offeredOf, proposeOf, arriveOf, tellOf};
 
 // What a descent keeps to: its box, its tolerance and its limits.
 pub struct Plan {
@@ -47,13 +47,13 @@ struct Offer {
 
 // One more, within the most.
 fn one_more(n: u64, most: u64) -> u64
-    ensures { λ r. ⌜ r ≡ oneMore n most ⌝ }
+    ensures { λ r. ⌜ r ≡ oneMoreOf n most ⌝ }
 {
     if n < most { n + 1 } else { n }
 }
 
 fn direction_at(lo: [f64; 4], hi: [f64; 4], x: [f64; 4], v: Totals) -> [f64; 4]
-    ensures { λ r. ⌜ r ≡ directionAt lo hi x v ⌝ }
+    ensures { λ r. ⌜ r ≡ directionAtOf lo hi x v ⌝ }
 {
     let gradient = v.gradient;
     let hessian = v.hessian;

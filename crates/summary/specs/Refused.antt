@@ -5,8 +5,8 @@ use mathlib.Core.List.{List}
 use Prim.Native.Nat.{ℕ}
 use lib.ListN.{getD}
 use Rattle.work.specs.Ended.{isRefused}
-use Rattle.objective.specs.Litters.{validLitters}
-use Rattle.objective.specs.Checks.{litterChecks, litters-fail}
+use Rattle.litters.specs.Valid.{validLittersOf}
+use Rattle.litters.specs.Checks.{litterChecks, litters-fail}
 use Rattle.summary.specs.declared.Summary.{Summary}
 use Rattle.summary.specs.Summary.{countsOf, answerOf, refusalOf, summaryOf}
 
@@ -16,8 +16,11 @@ by-test false s a h = refl
 
 pub summary-refused : (ls : List ℕ) → isRefused (summaryOf ls .end) ≡ true → summaryOf ls ≡ refusalOf
 unfolding summaryOf
-summary-refused ls h = by-test (validLitters ls) (answerOf (countsOf ls 0) (countsOf ls 1)) refl h
+summary-refused ls h = by-test (validLittersOf ls) (answerOf (countsOf ls 0) (countsOf ls 1)) refl h
+
+pub invalid-refused : (ls : List ℕ) → validLittersOf ls ≡ false → summaryOf ls ≡ refusalOf
+unfolding summaryOf
+invalid-refused ls h = rw h
 
 pub any-fails : (ls : List ℕ) (i : ℕ) → getD (litterChecks ls) i true ≡ false → summaryOf ls ≡ refusalOf
-unfolding summaryOf
-any-fails ls i h = rw (litters-fail ls i h)
+any-fails ls i h = invalid-refused ls (litters-fail ls i h)

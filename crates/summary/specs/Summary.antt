@@ -4,7 +4,8 @@ use mathlib.Core.List.{List}
 use Prim.Native.Nat.{ℕ, zero, suc, _+_, _<_}
 use lib.Dec.{eqb}
 use Rattle.work.specs.declared.Ending.the-variants.{Answered, InvalidInput}
-use Rattle.objective.specs.Litters.{countOf, successesAt, totalAt, groupAt, validLitters}
+use Rattle.litters.specs.Litters.{countOf, successesAt, totalAt, groupAt}
+use Rattle.litters.specs.Valid.{validLittersOf}
 use Rattle.summary.specs.declared.GroupCounts.{GroupCounts}
 use Rattle.summary.specs.declared.Summary.{Summary}
 
@@ -48,7 +49,7 @@ abbrev pub answerOf : GroupCounts → GroupCounts → Summary
 answerOf a b = record { end = Answered; first = a; second = b }
 
 unfoldable pub summaryOf : List ℕ → Summary
-summaryOf ls = cond (validLitters ls) (answerOf (countsOf ls 0) (countsOf ls 1)) refusalOf
+summaryOf ls = cond (validLittersOf ls) (answerOf (countsOf ls 0) (countsOf ls 1)) refusalOf
 
 -- two counts whose sums fit 64 bits
 pub record Adds (a b : GroupCounts) : Type 0 where

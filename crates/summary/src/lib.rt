@@ -98,7 +98,7 @@ fn refusal() -> Summary
 pub fn summarize(litters: &[u32]) -> Summary
     ensures { λ r. ⌜ (r ≡ summaryOf (now (litters .entry))) × (now (litters .exit) ≡ now (litters .entry)) ⌝ }
 {
-    if !objective::check::valid_litters(litters) {
+    if !litters::valid::valid_litters(litters) {
         return refusal();
     }
     let first = counts(litters, 0);

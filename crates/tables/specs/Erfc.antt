@@ -105,5 +105,5 @@ erfcRows =
 abbrev pub noRow : ErfcRow
 noRow = record { centre = zero·; value = zero·; a1 = zero·; a2 = zero·; a3 = zero·; a4 = zero·; a5 = zero·; a6 = zero·; a7 = zero·; a8 = zero·; a9 = zero·; a10 = zero·; a11 = zero· }
 
-unfoldable pub erfcRow : ℕ → ErfcRow
-erfcRow j = getD erfcRows j noRow
+unfoldable pub erfcRowOf : ℕ → ErfcRow
+erfcRowOf j = getD erfcRows j noRow

@@ -77,5 +77,5 @@ expRows =
 abbrev pub noRow : ExpRow
 noRow = record { value = zero·; rest = zero· }
 
-unfoldable pub expRow : ℕ → ExpRow
-expRow i = getD expRows i noRow
+unfoldable pub expRowOf : ℕ → ExpRow
+expRowOf i = getD expRows i noRow

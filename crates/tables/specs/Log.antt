@@ -77,5 +77,5 @@ logRows =
 abbrev pub noRow : LogRow
 noRow = record { centre = zero·; inverse = zero·; high = zero·; low = zero· }
 
-unfoldable pub logRow : ℕ → LogRow
-logRow j = getD logRows j noRow
+unfoldable pub logRowOf : ℕ → LogRow
+logRowOf j = getD logRows j noRow

@@ -15,24 +15,26 @@ use Rattle.posterior.specs.declared.side.Side.{Side}
 use Rattle.posterior.specs.declared.side.Side.the-variants.{Left, Right}
 use Rattle.posterior.specs.declared.integrand.Posterior.{Posterior}
 use Rattle.posterior.specs.declared.integrand.At as integrand
+use Rattle.posterior.specs.declared.number.Number.{Number}
+use Rattle.posterior.specs.declared.range.Range.{Range}
 use Rattle.tail.specs.declared.TailBound.{TailBound}
 use Rattle.tail.specs.declared.TailBound.the-variants.{Open, At}
 use Rattle.tail.specs.declared.Hill.{Hill}
-use Rattle.tail.specs.declared.Goal.{Goal}
 use Rattle.tail.specs.declared.Tail.{Tail}
-use Rattle.tail.specs.declared.Range.{Range}
 use Rattle.posterior.specs.Side.{risesOf, steepOf, outwardOf}
 use Rattle.posterior.specs.Integrand.{atOf, noPoint}
-use Rattle.tail.specs.Tail.{tailBoundOf, withinOf, closedOf, bothClosed, boundAfter, walk, tailFrom, tailOf, span, rangeOf, goal, goalOf, tail-share, noReach}
+use Rattle.posterior.specs.Number.{nothingOf as noNumber}
+use Rattle.posterior.specs.Range.{nothingOf as noRange}
+use Rattle.tail.specs.Tail.{tailBoundOf, withinOf, closedOf, bothClosedOf, boundAfterOf, walk, tailFrom, walkOutOf, span, boundedOf, goal, tailGoalOf, tail-share, noReach}
 
 -- the bound after an evaluation: a new one where the density rises toward the mode, else the one before
 module _ (h : Hill) (side : Side) (b : TailBound) (z log slope : Float) (t : Bool) (e : t ≡ risesOf side slope) where
-  pub bound-new : (s x : Float) → t ≡ true → s ≡ steepOf side slope → x ≡ tailBoundOf (log ⊖ h .log) s (h .mean ⊕ h .sd ⊗ z) (h .sd) (h .total) → At x ≡ boundAfter h side b z log slope
-  unfolding boundAfter
+  pub bound-new : (s x : Float) → t ≡ true → s ≡ steepOf side slope → x ≡ tailBoundOf (log ⊖ h .log) s (h .mean ⊕ h .sd ⊗ z) (h .sd) (h .total) → At x ≡ boundAfterOf h side b z log slope
+  unfolding boundAfterOf
   bound-new s x u f g = rw (← e, u, ← f, ← g)
 
-  pub bound-kept : t ≡ false → b ≡ boundAfter h side b z log slope
-  unfolding boundAfter
+  pub bound-kept : t ≡ false → b ≡ boundAfterOf h side b z log slope
+  unfolding boundAfterOf
   bound-kept u = rw (← e, u)
 
 -- b is the bound after the evaluation, y the place of the next
@@ -43,7 +45,7 @@ afterStep h side n j z a b y =
 abbrev none : Ending → Posterior → Tail
 none e q = record { end = e; p = q; z = zero·; bound = Open }
 
-tail-step : (q : Posterior) (h : Hill) (side : Side) (n j : ℕ) (z : Float) (b : TailBound) → tailFrom q h side (suc n) j z b ≡ (let a = atOf q z in cond (isRefused (a .end)) (none (a .end) (a .p)) (afterStep h side n j z a (boundAfter h side b z (a .v .log) (a .v .slope)) (outwardOf side (h .mode) (h .delta ⊗ powiOf two· (j + 1)))))
+tail-step : (q : Posterior) (h : Hill) (side : Side) (n j : ℕ) (z : Float) (b : TailBound) → tailFrom q h side (suc n) j z b ≡ (let a = atOf q z in cond (isRefused (a .end)) (none (a .end) (a .p)) (afterStep h side n j z a (boundAfterOf h side b z (a .v .log) (a .v .slope)) (outwardOf side (h .mode) (h .delta ⊗ powiOf two· (j + 1)))))
 unfolding tailFrom walk atOf
 tail-step q h side n j z b = rw (past noPoint, branch, gives)
 
@@ -55,58 +57,52 @@ module _ (whole : Tail) (q : Posterior) (h : Hill) (side : Side) (n j : ℕ) (z 
   pub tail-stops : (a : integrand.At) → j < n → a ≡ atOf q z → isRefused (a .end) ≡ true → none (a .end) (a .p) ≡ whole
   tail-stops a l e t = rw (left-one n j l, tail-step, ← e, t) at i
 
-  pub tail-settles : (a : integrand.At) (c : TailBound) → j < n → a ≡ atOf q z → isRefused (a .end) ≡ false → c ≡ boundAfter h side b z (a .v .log) (a .v .slope) → withinOf c (h .goal) ≡ true → record { end = Answered; p = a .p; z = z; bound = c } ≡ whole
+  pub tail-settles : (a : integrand.At) (c : TailBound) → j < n → a ≡ atOf q z → isRefused (a .end) ≡ false → c ≡ boundAfterOf h side b z (a .v .log) (a .v .slope) → withinOf c (h .goal) ≡ true → record { end = Answered; p = a .p; z = z; bound = c } ≡ whole
   tail-settles a c l e t f g = rw (left-one n j l, tail-step, ← e, t, ← f, g) at i
 
-  pub tail-turn : (a : integrand.At) (c : TailBound) (s y : Float) → j < n → a ≡ atOf q z → isRefused (a .end) ≡ false → c ≡ boundAfter h side b z (a .v .log) (a .v .slope) → withinOf c (h .goal) ≡ false → s ≡ powiOf two· (j + 1) → y ≡ outwardOf side (h .mode) (h .delta ⊗ s) → tailFrom (a .p) h side (n - (j + 1)) (j + 1) y c ≡ whole
+  pub tail-turn : (a : integrand.At) (c : TailBound) (s y : Float) → j < n → a ≡ atOf q z → isRefused (a .end) ≡ false → c ≡ boundAfterOf h side b z (a .v .log) (a .v .slope) → withinOf c (h .goal) ≡ false → s ≡ powiOf two· (j + 1) → y ≡ outwardOf side (h .mode) (h .delta ⊗ s) → tailFrom (a .p) h side (n - (j + 1)) (j + 1) y c ≡ whole
   tail-turn a c s y l e t f g u v = rw (v, u) (rw (left-one n j l, tail-step, ← e, t, ← f, g) at i)
 
   pub tail-done : n ≤ j → record { end = Answered; p = q; z = z; bound = b } ≡ whole
   tail-done l = rw (left-none n j l, tail-end) at i
 
 module _ (l r : TailBound) (goal : Float) (t : Bool) (e : t ≡ closedOf l goal) where
-  pub left-closed : (u : Bool) → t ≡ true → u ≡ closedOf r goal → u ≡ bothClosed l r goal
-  unfolding bothClosed
+  pub left-closed : (u : Bool) → t ≡ true → u ≡ closedOf r goal → u ≡ bothClosedOf l r goal
+  unfolding bothClosedOf
   left-closed u f g = rw (← e, f) g
 
-  pub left-not-closed : t ≡ false → false ≡ bothClosed l r goal
-  unfolding bothClosed
+  pub left-not-closed : t ≡ false → false ≡ bothClosedOf l r goal
+  unfolding bothClosedOf
   left-not-closed f = rw (← e, f)
 
 -- both sides
-abbrev refusal : Ending → Posterior → Range
-refusal e q = record { end = e; p = q; left = zero·; right = zero· }
-
 abbrev pub afterRight : Hill → Tail → Tail → Range
 afterRight h l r =
-    cond (isRefused (r .end)) (refusal (r .end) (r .p))
-    (cond (bothClosed (l .bound) (r .bound) (h .goal)) (record { end = Answered; p = r .p; left = l .z; right = r .z }) (refusal (Domain 3) (r .p)))
+    cond (isRefused (r .end)) (noRange (r .end) (r .p))
+    (cond (bothClosedOf (l .bound) (r .bound) (h .goal)) (record { end = Answered; p = r .p; left = l .z; right = r .z }) (noRange (Domain 3) (r .p)))
 
-range-is : (p : Posterior) (h : Hill) → rangeOf p h ≡ (let l = tailOf p h Left in cond (isRefused (l .end)) (refusal (l .end) (l .p)) (afterRight h l (tailOf (l .p) h Right)))
-unfolding rangeOf span tailOf tailFrom
+range-is : (p : Posterior) (h : Hill) → boundedOf p h ≡ (let l = walkOutOf p h Left in cond (isRefused (l .end)) (noRange (l .end) (l .p)) (afterRight h l (walkOutOf (l .p) h Right)))
+unfolding boundedOf span walkOutOf tailFrom
 range-is p h = rw (past noReach, past noReach, branch, gives, gives-up)
 
-module _ (p : Posterior) (h : Hill) (l : Tail) (e : l ≡ tailOf p h Left) where
-  pub range-stops : isRefused (l .end) ≡ true → refusal (l .end) (l .p) ≡ rangeOf p h
-  range-stops t = rw (range-is, ← e, t)
+module _ (p : Posterior) (h : Hill) (l : Tail) (e : l ≡ walkOutOf p h Left) where
+  pub range-stops : (x : Range) → isRefused (l .end) ≡ true → x ≡ noRange (l .end) (l .p) → x ≡ boundedOf p h
+  range-stops x t u = rw (range-is, ← e, t) u
 
-  pub range-goes : (x : Range) (r : Tail) → isRefused (l .end) ≡ false → r ≡ tailOf (l .p) h Right → x ≡ afterRight h l r → x ≡ rangeOf p h
+  pub range-goes : (x : Range) (r : Tail) → isRefused (l .end) ≡ false → r ≡ walkOutOf (l .p) h Right → x ≡ afterRight h l r → x ≡ boundedOf p h
   range-goes x r t f u = rw (range-is, ← e, t, ← f) u
 
 -- the goal
-abbrev noGoal : integrand.At → Goal
-noGoal a = record { end = a .end; p = a .p; goal = zero· }
-
-goal-is : (p : Posterior) (mode log delta : Float) → goalOf p mode log delta ≡ (let l = atOf p (mode ⊖ delta) in let r = atOf (l .p) (mode ⊕ delta) in cond (isRefused (l .end)) (noGoal l) (cond (isRefused (r .end)) (noGoal r) (record { end = Answered; p = r .p; goal = tail-share ⊗ (two· ⊗ delta ⊗ expOf (minOf (l .v .log) (r .v .log) ⊖ log)) })))
-unfolding goalOf goal atOf
+goal-is : (p : Posterior) (mode log delta : Float) → tailGoalOf p mode log delta ≡ (let l = atOf p (mode ⊖ delta) in let r = atOf (l .p) (mode ⊕ delta) in cond (isRefused (l .end)) (noNumber (l .end) (l .p)) (cond (isRefused (r .end)) (noNumber (r .end) (r .p)) (record { end = Answered; p = r .p; value = tail-share ⊗ (two· ⊗ delta ⊗ expOf (minOf (l .v .log) (r .v .log) ⊖ log)) })))
+unfolding tailGoalOf goal atOf
 goal-is p mode log delta = rw (past noPoint, past noPoint, gives)
 
 module _ (p : Posterior) (mode log delta : Float) (l : integrand.At) (e : l ≡ atOf p (mode ⊖ delta)) where
-  pub goal-stops : isRefused (l .end) ≡ true → noGoal l ≡ goalOf p mode log delta
-  goal-stops t = rw (goal-is, ← e, t)
+  pub goal-stops : (x : Number) → isRefused (l .end) ≡ true → x ≡ noNumber (l .end) (l .p) → x ≡ tailGoalOf p mode log delta
+  goal-stops x t u = rw (goal-is, ← e, t) u
 
-  pub goal-stops-right : (r : integrand.At) → isRefused (l .end) ≡ false → r ≡ atOf (l .p) (mode ⊕ delta) → isRefused (r .end) ≡ true → noGoal r ≡ goalOf p mode log delta
-  goal-stops-right r t f u = rw (goal-is, ← e, t, ← f, u)
+  pub goal-stops-right : (x : Number) (r : integrand.At) → isRefused (l .end) ≡ false → r ≡ atOf (l .p) (mode ⊕ delta) → isRefused (r .end) ≡ true → x ≡ noNumber (r .end) (r .p) → x ≡ tailGoalOf p mode log delta
+  goal-stops-right x r t f u v = rw (goal-is, ← e, t, ← f, u) v
 
-  pub goal-gives : (r : integrand.At) (m x : Float) → isRefused (l .end) ≡ false → r ≡ atOf (l .p) (mode ⊕ delta) → isRefused (r .end) ≡ false → m ≡ minOf (l .v .log) (r .v .log) → x ≡ expOf (m ⊖ log) → record { end = Answered; p = r .p; goal = tail-share ⊗ (two· ⊗ delta ⊗ x) } ≡ goalOf p mode log delta
+  pub goal-gives : (r : integrand.At) (m x : Float) → isRefused (l .end) ≡ false → r ≡ atOf (l .p) (mode ⊕ delta) → isRefused (r .end) ≡ false → m ≡ minOf (l .v .log) (r .v .log) → x ≡ expOf (m ⊖ log) → record { end = Answered; p = r .p; value = tail-share ⊗ (two· ⊗ delta ⊗ x) } ≡ tailGoalOf p mode log delta
   goal-gives r m x t f u g k = rw (goal-is, ← e, t, ← f, u, ← g, ← k)

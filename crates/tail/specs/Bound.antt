@@ -8,7 +8,7 @@ use Rattle.posterior.specs.declared.side.Side.the-variants.{Left, Right}
 use Rattle.posterior.specs.Integrand.{Eval}
 use Rattle.tail.specs.declared.TailBound.{TailBound}
 use Rattle.tail.specs.declared.Hill.{Hill}
-use Rattle.tail.specs.Tail.{withinOf, bothClosed, boundAfter, stepOut, walk, span, goal}
+use Rattle.tail.specs.Tail.{withinOf, bothClosedOf, boundAfterOf, stepOut, walk, span, goal}
 
 module _ (here : Float → Eval) where
   -- the tails' goal: at most 2
@@ -21,9 +21,9 @@ module _ (here : Float → Eval) where
   unfolding walk _>>=_
   walk-at-most h side zero j z b = rets
   walk-at-most h side (suc n) j z b =
-      asks (λ v. either (withinOf (boundAfter h side b z (v .log) (v .slope)) (h .goal)) rets (walk-at-most h side n (j + 1) (stepOut h side j) (boundAfter h side b z (v .log) (v .slope))))
+      asks (λ v. either (withinOf (boundAfterOf h side b z (v .log) (v .slope)) (h .goal)) rets (walk-at-most h side n (j + 1) (stepOut h side j) (boundAfterOf h side b z (v .log) (v .slope))))
 
   -- both tails: at most 60
   pub span-at-most : (h : Hill) → AtMost 60 (span here h)
   unfolding span
-  span-at-most h = both 30 (walk-at-most h Left 30 0 _ _) (λ l. both 0 (walk-at-most h Right 30 0 _ _) (λ r. either (bothClosed (l .bound) (r .bound) (h .goal)) rets stops))
+  span-at-most h = both 30 (walk-at-most h Left 30 0 _ _) (λ l. both 0 (walk-at-most h Right 30 0 _ _) (λ r. either (bothClosedOf (l .bound) (r .bound) (h .goal)) rets stops))

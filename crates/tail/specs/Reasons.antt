@@ -10,7 +10,7 @@ use Rattle.posterior.specs.declared.side.Side.the-variants.{Left, Right}
 use Rattle.posterior.specs.Integrand.{Eval}
 use Rattle.tail.specs.declared.TailBound.{TailBound}
 use Rattle.tail.specs.declared.Hill.{Hill}
-use Rattle.tail.specs.Tail.{withinOf, bothClosed, boundAfter, stepOut, walk, span, goal}
+use Rattle.tail.specs.Tail.{withinOf, bothClosedOf, boundAfterOf, stepOut, walk, span, goal}
 
 module _ (here : Float → Eval) where
   pub goal-reasons : (mode log delta : Float) → Stops (Reasoned 5) (goal here mode log delta)
@@ -21,9 +21,9 @@ module _ (here : Float → Eval) where
   unfolding walk _>>=_
   walk-reasons h side zero j z b = answers
   walk-reasons h side (suc n) j z b =
-      hears (λ v. chosen (withinOf (boundAfter h side b z (v .log) (v .slope)) (h .goal)) answers (walk-reasons h side n (j + 1) (stepOut h side j) (boundAfter h side b z (v .log) (v .slope))))
+      hears (λ v. chosen (withinOf (boundAfterOf h side b z (v .log) (v .slope)) (h .goal)) answers (walk-reasons h side n (j + 1) (stepOut h side j) (boundAfterOf h side b z (v .log) (v .slope))))
 
   pub span-reasons : (h : Hill) → Stops (Reasoned 5) (span here h)
   unfolding span
   span-reasons h =
-      passed (walk-reasons h Left 30 0 _ _) (λ l. passed (walk-reasons h Right 30 0 _ _) (λ r. chosen (bothClosed (l .bound) (r .bound) (h .goal)) answers (refuses {r = domain 3} (lit≤ tt, lit≤ tt))))
+      passed (walk-reasons h Left 30 0 _ _) (λ l. passed (walk-reasons h Right 30 0 _ _) (λ r. chosen (bothClosedOf (l .bound) (r .bound) (h .goal)) answers (refuses {r = domain 3} (lit≤ tt, lit≤ tt))))

@@ -4,7 +4,7 @@ use mathlib.Core.List.{[], _∷_}
 use Prim.Native.Nat.{ℕ, zero, suc, _+_}
 use lib.Ieee.{Float, le}
 use Rattle.num.specs.F64.{_⊕_, _⊖_, _⊗_, _⊘_, whole, bits, zero·, one·, two·, four·, infinity·}
-use Rattle.num.specs.Helpers.{absOf, isFinite, minOf, powiOf, sumOf}
+use Rattle.num.specs.Helpers.{absOf, isFiniteOf, minOf, powiOf, sumOf}
 use Rattle.elementary.specs.Exp.{expOf}
 use Rattle.work.specs.declared.Ending.{Ending}
 use Rattle.work.specs.Ended.{domain}
@@ -13,14 +13,16 @@ use Rattle.posterior.specs.declared.side.Side.{Side}
 use Rattle.posterior.specs.declared.side.Side.the-variants.{Left, Right}
 use Rattle.posterior.specs.declared.integrand.Posterior.{Posterior}
 use Rattle.posterior.specs.declared.integrand.Point.{Point}
+use Rattle.posterior.specs.declared.number.Number.{Number}
+use Rattle.posterior.specs.declared.range.Range.{Range}
 use Rattle.tail.specs.declared.TailBound.{TailBound}
 use Rattle.tail.specs.declared.TailBound.the-variants.{Open, At}
 use Rattle.tail.specs.declared.Hill.{Hill}
-use Rattle.tail.specs.declared.Goal.{Goal}
 use Rattle.tail.specs.declared.Tail.{Tail}
-use Rattle.tail.specs.declared.Range.{Range}
 use Rattle.posterior.specs.Side.{risesOf, steepOf, outwardOf}
 use Rattle.posterior.specs.Integrand.{Eval, here, counted, from}
+use Rattle.posterior.specs.Number.{toNumber}
+use Rattle.posterior.specs.Range.{Ends, noEnds, toRange}
 
 -- one term of the polynomial: coefficient u^i sd^k / slope^j
 unfoldable pub termOf : Float → Float → ℕ → Float → ℕ → Float → ℕ → Float
@@ -50,15 +52,15 @@ withinOf (At b) goal = le b goal
 -- what is asked after both walks: a side that is bounded by a finite number at most its goal
 abbrev pub closedOf : TailBound → Float → Bool
 closedOf Open goal = false
-closedOf (At b) goal = isFinite b && le b goal
+closedOf (At b) goal = isFiniteOf b && le b goal
 
-unfoldable pub bothClosed : TailBound → TailBound → Float → Bool
-bothClosed l r goal = closedOf l goal && closedOf r goal
+unfoldable pub bothClosedOf : TailBound → TailBound → Float → Bool
+bothClosedOf l r goal = closedOf l goal && closedOf r goal
 
 -- What the walks of one litter share: its pups, mean and spread, and the mode, the logarithm there, the scale and the goal.
 -- A new bound is taken only where the density rises toward the mode.
-unfoldable pub boundAfter : Hill → Side → TailBound → Float → Float → Float → TailBound
-boundAfter h side b z log slope = cond (risesOf side slope) (At (tailBoundOf (log ⊖ h .log) (steepOf side slope) (h .mean ⊕ h .sd ⊗ z) (h .sd) (h .total))) b
+unfoldable pub boundAfterOf : Hill → Side → TailBound → Float → Float → Float → TailBound
+boundAfterOf h side b z log slope = cond (risesOf side slope) (At (tailBoundOf (log ⊖ h .log) (steepOf side slope) (h .mean ⊕ h .sd ⊗ z) (h .sd) (h .total))) b
 
 abbrev pub stepOut : Hill → Side → ℕ → Float
 stepOut h side j = outwardOf side (h .mode) (h .delta ⊗ powiOf two· (j + 1))
@@ -72,19 +74,15 @@ unfoldable pub walk : (Float → Eval) → Hill → Side → ℕ → ℕ → Flo
 walk here h side zero j z b = ret (record { z = z; bound = b })
 walk here h side (suc n) j z b = do
   v ← eval (here z)
-  cond (withinOf (boundAfter h side b z (v .log) (v .slope)) (h .goal)) (ret (record { z = z; bound = boundAfter h side b z (v .log) (v .slope) }))
-      (walk here h side n (j + 1) (stepOut h side j) (boundAfter h side b z (v .log) (v .slope)))
+  cond (withinOf (boundAfterOf h side b z (v .log) (v .slope)) (h .goal)) (ret (record { z = z; bound = boundAfterOf h side b z (v .log) (v .slope) }))
+      (walk here h side n (j + 1) (stepOut h side j) (boundAfterOf h side b z (v .log) (v .slope)))
 
-pub record Span : Type 0 where
-  pub left : Float
-  pub right : Float
-
--- reason 3: a side is open, or its bound is a NaN, infinite or above its goal
-unfoldable pub span : (Float → Eval) → Hill → Work Eval Point Span
+-- reason 3, tail not bounded: a side is open, or its bound is a NaN, infinite or above its goal
+unfoldable pub span : (Float → Eval) → Hill → Work Eval Point Ends
 span here h = do
   l ← walk here h Left 30 0 (outwardOf Left (h .mode) (h .delta)) Open
   r ← walk here h Right 30 0 (outwardOf Right (h .mode) (h .delta)) Open
-  cond (bothClosed (l .bound) (r .bound) (h .goal)) (ret (record { left = l .z; right = r .z })) (stop (domain 3))
+  cond (bothClosedOf (l .bound) (r .bound) (h .goal)) (ret (record { left = l .z; right = r .z })) (stop (domain 3))
 
 -- 1e-13
 abbrev pub tail-share : Float
@@ -99,11 +97,8 @@ goal here mode log delta = do
 
 -- ---- the code's answers
 
-abbrev pub toGoal : Posterior → Ending → ℕ → Float → Goal
-toGoal p e n g = record { end = e; p = counted p n; goal = g }
-
-unfoldable pub goalOf : Posterior → Float → Float → Float → Goal
-goalOf p mode log delta = told (toGoal p) zero· (from p (goal (here p) mode log delta))
+unfoldable pub tailGoalOf : Posterior → Float → Float → Float → Number
+tailGoalOf p mode log delta = told (toNumber p) zero· (from p (goal (here p) mode log delta))
 
 abbrev pub noReach : Reach
 noReach = record { z = zero·; bound = Open }
@@ -114,14 +109,8 @@ toTail p e n t = record { end = e; p = counted p n; z = t .z; bound = t .bound }
 unfoldable pub tailFrom : Posterior → Hill → Side → ℕ → ℕ → Float → TailBound → Tail
 tailFrom p h side n j z b = told (toTail p) noReach (from p (walk (here p) h side n j z b))
 
-unfoldable pub tailOf : Posterior → Hill → Side → Tail
-tailOf p h side = tailFrom p h side 30 0 (outwardOf side (h .mode) (h .delta)) Open
+unfoldable pub walkOutOf : Posterior → Hill → Side → Tail
+walkOutOf p h side = tailFrom p h side 30 0 (outwardOf side (h .mode) (h .delta)) Open
 
-abbrev pub noSpan : Span
-noSpan = record { left = zero·; right = zero· }
-
-abbrev pub toRange : Posterior → Ending → ℕ → Span → Range
-toRange p e n s = record { end = e; p = counted p n; left = s .left; right = s .right }
-
-unfoldable pub rangeOf : Posterior → Hill → Range
-rangeOf p h = told (toRange p) noSpan (from p (span (here p) h))
+unfoldable pub boundedOf : Posterior → Hill → Range
+boundedOf p h = told (toRange p) noEnds (from p (span (here p) h))

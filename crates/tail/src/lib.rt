@@ -1,9 +1,11 @@
 // The tails: how much mass beyond a point there can be, and steps outward until that is within a goal.
 use posterior::integrand::Posterior;
+use posterior::number::Number;
+use posterior::range::Range;
 use posterior::side::Side;
 use work::Ending;
 ghost use mathlib.Core.Path.{_≡_};
-ghost use Rattle.tail.specs.Tail.{termOf, tailBoundOf, withinOf, closedOf, bothClosed, boundAfter, goalOf, tailOf, rangeOf};
+ghost use Rattle.tail.specs.Tail.{termOf, tailBoundOf, withinOf, closedOf, bothClosedOf, boundAfterOf, tailGoalOf, walkOutOf, boundedOf};
 
 // A side: not yet bounded, or bounded by a number, which may be infinite or a NaN.
 pub enum TailBound {
@@ -22,24 +24,11 @@ pub struct Hill {
     pub goal: f64,
 }
 
-pub struct Goal {
-    pub end: Ending,
-    pub p: Posterior,
-    pub goal: f64,
-}
-
 pub struct Tail {
     pub end: Ending,
     pub p: Posterior,
     pub z: f64,
     pub bound: TailBound,
-}
-
-pub struct Range {
-    pub end: Ending,
-    pub p: Posterior,
-    pub left: f64,
-    pub right: f64,
 }
 
 fn term(coefficient: f64, u: f64, i: u32, sd: f64, k: u32, slope: f64, j: u32) -> f64
@@ -81,7 +70,7 @@ fn closed(b: TailBound, goal: f64) -> bool
 }
 
 fn both_closed(l: TailBound, r: TailBound, goal: f64) -> bool
-    ensures { λ b. ⌜ b ≡ bothClosed l r goal ⌝ }
+    ensures { λ b. ⌜ b ≡ bothClosedOf l r goal ⌝ }
 {
     if closed(l, goal) {
         return closed(r, goal);
@@ -90,7 +79,7 @@ fn both_closed(l: TailBound, r: TailBound, goal: f64) -> bool
 }
 
 fn bound_after(h: Hill, side: Side, b: TailBound, z: f64, log: f64, slope: f64) -> TailBound
-    ensures { λ r. ⌜ r ≡ boundAfter h side b z log slope ⌝ }
+    ensures { λ r. ⌜ r ≡ boundAfterOf h side b z log slope ⌝ }
 {
     if posterior::side::rises(side, slope) {
         return TailBound::At(tail_bound(
@@ -105,7 +94,7 @@ fn bound_after(h: Hill, side: Side, b: TailBound, z: f64, log: f64, slope: f64) 
 }
 
 fn walk_out(p: Posterior, h: Hill, side: Side) -> Tail
-    ensures { λ r. ⌜ r ≡ tailOf p h side ⌝ }
+    ensures { λ r. ⌜ r ≡ walkOutOf p h side ⌝ }
 {
     let mut q = p;
     let mut z = posterior::side::outward(side, h.mode, h.delta);
@@ -143,29 +132,19 @@ fn walk_out(p: Posterior, h: Hill, side: Side) -> Tail
 }
 
 pub fn bounded(p: Posterior, h: Hill) -> Range
-    ensures { λ r. ⌜ r ≡ rangeOf p h ⌝ }
+    ensures { λ r. ⌜ r ≡ boundedOf p h ⌝ }
 {
     let l = walk_out(p, h, Side::Left);
     let end = l.end;
     let q = l.p;
     if work::refused(end) {
-        return Range {
-            end,
-            p: q,
-            left: 0.0,
-            right: 0.0,
-        };
+        return posterior::range::nothing(end, q);
     }
     let r = walk_out(q, h, Side::Right);
     let end = r.end;
     let q = r.p;
     if work::refused(end) {
-        return Range {
-            end,
-            p: q,
-            left: 0.0,
-            right: 0.0,
-        };
+        return posterior::range::nothing(end, q);
     }
     let lb = l.bound;
     let rb = r.bound;
@@ -177,41 +156,28 @@ pub fn bounded(p: Posterior, h: Hill) -> Range
             right: r.z,
         };
     }
-    Range {
-        end: Ending::Domain(3),
-        p: q,
-        left: 0.0,
-        right: 0.0,
-    }
+    posterior::range::nothing(Ending::Domain(3), q)
 }
 
-pub fn tail_goal(p: Posterior, mode: f64, log: f64, delta: f64) -> Goal
-    ensures { λ r. ⌜ r ≡ goalOf p mode log delta ⌝ }
+pub fn tail_goal(p: Posterior, mode: f64, log: f64, delta: f64) -> Number
+    ensures { λ r. ⌜ r ≡ tailGoalOf p mode log delta ⌝ }
 {
     let l = posterior::integrand::evaluate(p, mode - delta);
     let end = l.end;
     let q = l.p;
     if work::refused(end) {
-        return Goal {
-            end,
-            p: q,
-            goal: 0.0,
-        };
+        return posterior::number::nothing(end, q);
     }
     let r = posterior::integrand::evaluate(q, mode + delta);
     let end = r.end;
     let q = r.p;
     if work::refused(end) {
-        return Goal {
-            end,
-            p: q,
-            goal: 0.0,
-        };
+        return posterior::number::nothing(end, q);
     }
     let least = elementary::exp::exp(num::min(l.v.log, r.v.log) - log);
-    Goal {
+    Number {
         end: Ending::Answered,
         p: q,
-        goal: 1e-13 * (2.0 * delta * least),
+        value: 1e-13 * (2.0 * delta * least),
     }
 }

@@ -1,22 +1,24 @@
 -- From what was read to what is printed: numbers of bits, and each way an answer is found.
 use mathlib.Core.Path.{_≡_, refl, sym, ap, subst, _∙_}
 use mathlib.Core.Bool.{true, false, not, true≢false, false≢true}
-use mathlib.Core.List.{List}
+use mathlib.Core.List.{List, _∷_}
 use Prim.Native.Nat.{ℕ, _+_, _*_, _%_, _^_, _≤_, _<_}
 use native.Mathlib.Omega.{arith}
 use lib.Dec.{T}
-use lib.ListN.{length, take}
+use lib.ListN.{getD, length, take}
 use lib.Ieee.{Float, nan, inf, fin, binary64, isNan, nanBits}
 use lib.Ieee.Bits.{nanBits-is, nanBits-above}
 use borrow.Author.Tests.{lt-ltb, le-ltb, not-true, not-false}
 use Rattle.num.specs.F64.{bits}
+use Rattle.request.specs.declared.Request.{Request}
+use Rattle.request.specs.Request.{requestOf}
 use Rattle.fit.specs.Fit.{fitOf}
 use Rattle.read.specs.declared.Asking.{Asking}
 use Rattle.read.specs.Request.{Asked, asked, form, readRequest}
 use Rattle.read.specs.Rows.{putLitters, fillRequest, askingOf}
 use Rattle.read.specs.Filled.{request-filled}
 use Rattle.print.specs.Answer.{refusalText, fitText}
-use Rattle.text.specs.Answer.{requestIn, answerTo, answerText}
+use Rattle.text.specs.Answer.{number, numbers, requestIn, answerTo, answerText}
 use Rattle.text.specs.Answered.{many-answer}
 use Rattle.text.specs.Kept.{kept-litters, length-puts}
 
@@ -34,6 +36,15 @@ module _ (n : ℕ) where
 
   pub some-bits : n % 2 ^ 63 ≤ 0x7ff0_0000_0000_0000 → T (not (nanBits binary64 n))
   some-bits h = rw (nanBits-above binary64 n, le-ltb (0x7ff0_0000_0000_0000) (n % 2 ^ 63) h) tt
+
+-- ---- the request, of its numbers
+
+pub next : {x y : Float} {xs ys : List Float} → x ≡ y → xs ≡ ys → (x ∷ xs) ≡ (y ∷ ys)
+next e f = rw (e, f)
+
+pub request-is : (vs : List ℕ) (r : Request) (b : List Float) (t : Float) → r ≡ requestOf b t (getD vs 12 0) (getD vs 13 0) (getD vs 14 0) → b ≡ numbers vs → t ≡ number vs 15 → r ≡ requestIn vs
+unfolding requestIn
+request-is vs r b t e f g = rw (f, g) at e
 
 -- ---- the three ways
 

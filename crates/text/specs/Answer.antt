@@ -11,10 +11,10 @@ use Rattle.read.specs.Request.{Asked, asked, form, readRequest}
 use Rattle.print.specs.Answer.{refusalText, fitText}
 
 -- the request that the head's values ask for, each f64 made of its bits
-abbrev number : List ℕ → ℕ → Float
+abbrev pub number : List ℕ → ℕ → Float
 number vs i = bits (getD vs i 0)
 
-abbrev numbers : List ℕ → List Float
+abbrev pub numbers : List ℕ → List Float
 numbers vs =
     let n = number vs in
     n 0 ∷ n 1 ∷ n 2 ∷ n 3 ∷ n 4 ∷ n 5 ∷ n 6 ∷ n 7 ∷ n 8 ∷ n 9 ∷ n 10 ∷ n 11 ∷ []

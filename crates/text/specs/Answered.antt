@@ -4,7 +4,7 @@ use mathlib.Core.List.{List, [], _∷_}
 use Prim.Native.Nat.{ℕ, _*_, _≤_, _<_}
 use native.Mathlib.Omega.{arith}
 use lib.ListN.{length}
-use Rattle.objective.specs.Litters.{countOf}
+use Rattle.litters.specs.Litters.{countOf}
 use Rattle.fit.specs.Fit.{fitOf}
 use Rattle.fit.specs.Refused.{many-refused}
 use Rattle.read.specs.Request.{Asked, asked, form, readRequest}

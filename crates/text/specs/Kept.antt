@@ -7,7 +7,7 @@ use native.Mathlib.Omega.{arith}
 use lib.Dec.{ltb}
 use lib.ListN.{length, getD, take}
 use borrow.Author.Tests.{lt-ltb}
-use Rattle.litters.specs.Litters.{rowIn}
+use Rattle.litters.specs.Table.{rowIn}
 use Rattle.litters.specs.Kept.{row-length, row-taken}
 use Rattle.read.specs.Rows.{putLitter, putLitters}
 use Rattle.text.specs.Answer.{littersOf}

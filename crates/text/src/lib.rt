@@ -1,11 +1,6 @@
 // From a request's bytes to its answer's.
-use request::Bounds;
 use request::Request;
-use work::FitEvaluations;
-use work::Iterations;
-use work::QuadratureEvaluations;
 ghost use mathlib.Core.Path.{_≡_};
-ghost use mathlib.Core.List.{_∷_, []};
 ghost use Prim.Native.Nat.{_≤_, _<_};
 ghost use lib.ListN.{length};
 ghost use Rattle.num.specs.F64.{bits as F64·bits};
@@ -25,28 +20,24 @@ pub fn number(bits: u64) -> f64
     f64::from_bits(bits)
 }
 
-// Low, high and start of group 0, then of group 1.
-fn bounds(a: u64, b: u64, c: u64, d: u64, e: u64, f: u64) -> Bounds
-    ensures { λ r. ⌜ r ≡ record { low = F64·bits a ∷ F64·bits d ∷ []; high = F64·bits b ∷ F64·bits e ∷ []; start = F64·bits c ∷ F64·bits f ∷ [] } ⌝ }
-{
-    Bounds {
-        low: [number(a), number(d)],
-        high: [number(b), number(e)],
-        start: [number(c), number(f)],
-    }
-}
-
 pub fn request(v: [u64; 16]) -> Request
     ensures { λ r. ⌜ r ≡ requestIn v ⌝ }
 {
-    Request {
-        mean: bounds(v[0], v[1], v[2], v[3], v[4], v[5]),
-        sd: bounds(v[6], v[7], v[8], v[9], v[10], v[11]),
-        evaluations: FitEvaluations(v[12]),
-        iterations: Iterations(v[13]),
-        quadrature: QuadratureEvaluations(v[14]),
-        tolerance: number(v[15]),
-    }
+    let bounds = [
+        number(v[0]),
+        number(v[1]),
+        number(v[2]),
+        number(v[3]),
+        number(v[4]),
+        number(v[5]),
+        number(v[6]),
+        number(v[7]),
+        number(v[8]),
+        number(v[9]),
+        number(v[10]),
+        number(v[11]),
+    ];
+    request::requested(&bounds, number(v[15]), v[12], v[13], v[14])
 }
 
 fn fitted(r: Request, litters: &[u32], out: &mut [u8]) -> usize

@@ -9,8 +9,8 @@ use Rattle.descent.specs.Descent.{decreases, rounds, allowanceOf, boundOf}
 use Rattle.value.specs.declared.Totals.{Totals}
 use Rattle.step.specs.Step.{projectOf, normOf, slopeOf}
 
-abbrev pub normAt : List Float → List Float → List Float → Totals → Float
-normAt lo hi x v = normOf (projectOf x (v .gradient) lo hi)
+abbrev pub normAtOf : List Float → List Float → List Float → Totals → Float
+normAtOf lo hi x v = normOf (projectOf x (v .gradient) lo hi)
 
 unfoldable pub idleOf : Float → Trial
 idleOf slope = cond (le zero· slope) (NotDownhill slope) NotMoved
@@ -20,5 +20,5 @@ unfoldable pub judgedOf : List Float → List Float → List Float → Totals �
 judgedOf lo hi x v next c =
     let slope = slopeOf (v .gradient) next x in
     cond (decreases (v .nll) slope (c .nll)) (ByDecrease slope)
-    (cond (rounds (v .nll) slope (c .nll) (normAt lo hi x v) (normAt lo hi next c)) (ByRounding (allowanceOf (v .nll)))
+    (cond (rounds (v .nll) slope (c .nll) (normAtOf lo hi x v) (normAtOf lo hi next c)) (ByRounding (allowanceOf (v .nll)))
     (TooLittle (c .nll ⊖ boundOf (v .nll) slope)))

@@ -14,25 +14,25 @@ use Rattle.trial.specs.declared.watch.Since.{Since}
 use Rattle.trial.specs.declared.watch.Since.the-variants.{Arrived, Missed, Cut}
 use Rattle.trial.specs.declared.watch.Watch.{Watch}
 
-abbrev pub sinceOf : Trial → Since
-sinceOf (NotDownhill s) = Missed
-sinceOf NotMoved = Missed
-sinceOf (TooLittle m) = Missed
-sinceOf (ByDecrease s) = Arrived
-sinceOf (ByRounding a) = Arrived
-sinceOf CutOff = Cut
+abbrev pub byNewestOf : Trial → Since
+byNewestOf (NotDownhill s) = Missed
+byNewestOf NotMoved = Missed
+byNewestOf (TooLittle m) = Missed
+byNewestOf (ByDecrease s) = Arrived
+byNewestOf (ByRounding a) = Arrived
+byNewestOf CutOff = Cut
 
 -- by the newest of the trials so far
 abbrev pub sinceIn : List Trial → Since
 sinceIn [] = Arrived
-sinceIn (t ∷ ts) = sinceOf t
+sinceIn (t ∷ ts) = byNewestOf t
 
 -- a watch that is shown one more trial
 unfoldable pub notedOf : Trial → Watch → Watch
 notedOf t w =
-    cond (ltb (w .left) 1) (record { left = w .left; kept = w .kept; since = sinceOf t })
-    (cond (ltb (w .left) 2) (record { left = 0; kept = t; since = sinceOf t })
-    (record { left = w .left - 1; kept = w .kept; since = sinceOf t }))
+    cond (ltb (w .left) 1) (record { left = w .left; kept = w .kept; since = byNewestOf t })
+    (cond (ltb (w .left) 2) (record { left = 0; kept = t; since = byNewestOf t })
+    (record { left = w .left - 1; kept = w .kept; since = byNewestOf t }))
 
 -- for the n-th trial, after those so far
 unfoldable pub watchOf : ℕ → List Trial → Watch
@@ -44,15 +44,15 @@ unfoldable pub trialAt : ℕ → List Trial → Trial
 trialAt n [] = CutOff
 trialAt n (t ∷ ts) = cond (ltb (length ts) n) t (trialAt n ts)
 
-past : (t : Trial) (w : Watch) → w .left ≡ 0 → notedOf t w ≡ record { left = w .left; kept = w .kept; since = sinceOf t }
+past : (t : Trial) (w : Watch) → w .left ≡ 0 → notedOf t w ≡ record { left = w .left; kept = w .kept; since = byNewestOf t }
 unfolding notedOf
 past t w h = rw (lt-ltb (w .left) 1 (omega arith))
 
-hit : (t : Trial) (w : Watch) → w .left ≡ 1 → notedOf t w ≡ record { left = 0; kept = t; since = sinceOf t }
+hit : (t : Trial) (w : Watch) → w .left ≡ 1 → notedOf t w ≡ record { left = 0; kept = t; since = byNewestOf t }
 unfolding notedOf
 hit t w h = rw (le-ltb (w .left) 1 (omega arith), lt-ltb (w .left) 2 (omega arith))
 
-counts : (t : Trial) (w : Watch) → 2 ≤ w .left → notedOf t w ≡ record { left = w .left - 1; kept = w .kept; since = sinceOf t }
+counts : (t : Trial) (w : Watch) → 2 ≤ w .left → notedOf t w ≡ record { left = w .left - 1; kept = w .kept; since = byNewestOf t }
 unfolding notedOf
 counts t w h = rw (le-ltb (w .left) 1 (omega arith), le-ltb (w .left) 2 (omega arith))
 
@@ -82,7 +82,7 @@ watch-kept n (t ∷ ts) h k =
     (λ b. let z : watchOf n ts .left ≡ 0 = omega (arith, ltb-false (length ts) n b) in rw (b, past t (watchOf n ts) z) (watch-kept n ts h (ltb-false (length ts) n b)))
 
 -- where the search stands
-noted-since : (t : Trial) (w : Watch) → notedOf t w .since ≡ sinceOf t
+noted-since : (t : Trial) (w : Watch) → notedOf t w .since ≡ byNewestOf t
 unfolding notedOf
 noted-since t w = split (ltb (w .left) 1) (λ b. rw b) (λ b. split (ltb (w .left) 2) (λ d. rw (b, d)) (λ d. rw (b, d)))
 

@@ -3,13 +3,13 @@ use descent::Trial;
 use value::Totals;
 ghost use mathlib.Core.Path.{_≡_};
 ghost use Rattle.descent.specs.Descent.{rounds, allowanceOf};
-ghost use Rattle.trial.specs.Judged.{normAt, idleOf, judgedOf};
+ghost use Rattle.trial.specs.Judged.{normAtOf, idleOf, judgedOf};
 
 pub mod watch;
 
 // The projected gradient's norm at a point.
 pub fn norm_at(lo: [f64; 4], hi: [f64; 4], x: [f64; 4], v: Totals) -> f64
-    ensures { λ r. ⌜ r ≡ normAt lo hi x v ⌝ }
+    ensures { λ r. ⌜ r ≡ normAtOf lo hi x v ⌝ }
 {
     let gradient = v.gradient;
     step::norm(step::project(x, gradient, lo, hi))

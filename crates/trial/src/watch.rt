@@ -1,7 +1,7 @@
 // The trial that is looked for, while a descent goes on, and where its line search stands.
 use descent::Trial;
 ghost use mathlib.Core.Path.{_≡_};
-ghost use Rattle.trial.specs.Watch.{sinceOf, notedOf};
+ghost use Rattle.trial.specs.Watch.{byNewestOf, notedOf};
 
 // By the newest trial: none, or it took its step; it took none; the evaluation limit cut it off.
 pub enum Since {
@@ -18,7 +18,7 @@ pub struct Watch {
 }
 
 fn by_newest(t: Trial) -> Since
-    ensures { λ r. ⌜ r ≡ sinceOf t ⌝ }
+    ensures { λ r. ⌜ r ≡ byNewestOf t ⌝ }
 {
     match t {
         Trial::NotDownhill(_) => Since::Missed,

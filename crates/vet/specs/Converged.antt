@@ -25,16 +25,18 @@ use Rattle.work.specs.Asks.{answered}
 use Rattle.legendre.specs.Legendre.{legendreOf}
 use Rattle.posterior.specs.Integrand.{at}
 use Rattle.objective.specs.declared.sum.Objective.{Objective}
-use Rattle.objective.specs.Litters.{validLitters, validPoint}
-use Rattle.objective.specs.Objective.{objective, limitedOf, objectiveOf}
+use Rattle.litters.specs.Valid.{validLittersOf}
+use Rattle.objective.specs.Point.{validPointOf}
+use Rattle.objective.specs.Objective.{objective, limitedObjectiveOf, objectiveOf}
 use Rattle.objective.specs.Reasons.{admitted-reasons, objective-domain, objective-never-short}
 use Rattle.objective.specs.Finite.{objective-known}
 use Rattle.objective.specs.Coordinates.{pointOf}
 use Rattle.descent.specs.declared.Status.the-variants.{NoStatus, Converged}
 use Rattle.descent.specs.Status as status
 use Rattle.request.specs.declared.Request.{Request}
-use Rattle.request.specs.Request.{admits, validLimit, lowOf, highOf}
-use Rattle.request.specs.Box.{admitted-litters, inside-valid}
+use Rattle.request.specs.Request.{admittedOf, validLimit, lowOf, highOf}
+use Rattle.request.specs.Box.{admitted-litters}
+use Rattle.fit.specs.Valid.{inside-valid}
 use Rattle.drive.specs.Drive.{valueAt}
 use Rattle.fit.specs.declared.report.Fit.{Fit}
 use Rattle.fit.specs.Fit.{Report, refusedOf, fit, fitOf}
@@ -44,19 +46,19 @@ use Rattle.fit.specs.Restart.{reportedPoint, Gives, fit-restarts}
 use Rattle.fit.specs.Inside.{fit-asks}
 use Rattle.claim.specs.declared.Claim.{Claim}
 use Rattle.claim.specs.declared.Verdict.the-variants.{Accepted, Domain}
-use Rattle.claim.specs.Claim.{reasonOf, pointIn, boxed, sameBits, acceptedOf, judgedOf}
+use Rattle.claim.specs.Claim.{reasonOf, pointIn, inBoxOf, sameBitsOf, acceptedOf, judgedOf}
 use Rattle.vet.specs.Vet.{placedOf, vetOf}
 use Rattle.vet.specs.Accepted as accepted
 use Rattle.vet.specs.Accepted.{checked, there, different, facts-accept}
 
 -- ---- the box's test is what is known of a point in the box
-inside-boxed : (lo hi x : List Float) → Inside lo hi x → boxed (pointOf x) lo hi ≡ true
-unfolding boxed
+inside-boxed : (lo hi x : List Float) → Inside lo hi x → inBoxOf (pointOf x) lo hi ≡ true
+unfolding inBoxOf
 inside-boxed lo hi x s =
     rw (s .above 0 (lit< tt), s .below 0 (lit< tt), s .above 1 (lit< tt), s .below 1 (lit< tt), s .above 2 (lit< tt), s .below 2 (lit< tt), s .above 3 (lit< tt), s .below 3 (lit< tt))
 
-boxed-inside : (lo hi x : List Float) → boxed x lo hi ≡ true → Inside lo hi x
-unfolding boxed
+boxed-inside : (lo hi x : List Float) → inBoxOf x lo hi ≡ true → Inside lo hi x
+unfolding inBoxOf
 boxed-inside lo hi x h =
     let first = and-first (le (getD lo 0 nan) (getD x 0 nan) && le (getD x 0 nan) (getD hi 0 nan)) _ h in
     let h1 = and-second (le (getD lo 0 nan) (getD x 0 nan) && le (getD x 0 nan) (getD hi 0 nan)) _ h in
@@ -71,8 +73,8 @@ boxed-inside lo hi x h =
           (and-second (le (getD lo 2 nan) (getD x 2 nan)) _ third) (and-second (le (getD lo 3 nan) (getD x 3 nan)) _ fourth);
     }
 
-same-self : (x : Float) → sameBits x x ≡ true
-unfolding sameBits
+same-self : (x : Float) → sameBitsOf x x ≡ true
+unfolding sameBitsOf
 same-self x = eq-eqb (bitsOf x) (bitsOf x) refl
 
 -- what a fit reports, as a claim
@@ -92,16 +94,16 @@ converged-answered f g h =
 module _ (r : Request) (ls : List ℕ) where
   -- ---- what a fit reports lies in its box
   abbrev ReportBoxed : Report → Type 0
-  ReportBoxed p = boxed (getD (p .means) 0 nan ∷ getD (p .means) 1 nan ∷ getD (p .variances) 0 nan ∷ getD (p .variances) 1 nan ∷ []) (lowOf r) (highOf r) ≡ true
+  ReportBoxed p = inBoxOf (getD (p .means) 0 nan ∷ getD (p .means) 1 nan ∷ getD (p .variances) 0 nan ∷ getD (p .variances) 1 nan ∷ []) (lowOf r) (highOf r) ≡ true
 
   reports-boxed : Always ReportBoxed (fit legendreOf r ls)
   unfolding fit
   reports-boxed =
-      tested (admits r ls)
+      tested (admittedOf r ls)
       (λ t. passed (answered (λ q. valueAt legendreOf ls (q .at)) (λ q b. objective-known legendreOf (q .at) ls) (fit-asks r ls t)) (λ d a. holds (inside-boxed (lowOf r) (highOf r) (d .x) (a .inside .inside))))
       (λ t. refuses)
 
-  pub fit-boxed : fitOf r ls .end ≡ Answered → boxed (reportedPoint (fitOf r ls)) (lowOf r) (highOf r) ≡ true
+  pub fit-boxed : fitOf r ls .end ≡ Answered → inBoxOf (reportedPoint (fitOf r ls)) (lowOf r) (highOf r) ≡ true
   fit-boxed h =
       let a = answers.answered r ls (λ e. tt) reports-boxed h in
       rw (ap (λ (f : Fit). f .means) (a .is), ap (λ (f : Fit). f .variances) (a .is)) (a .has)
@@ -115,7 +117,7 @@ module _ (r : Request) (ls : List ℕ) where
       absurd (omega arith))
 
   by-report :
-      (f : Fit) → checked r ls ≡ true → boxed (reportedPoint f) (lowOf r) (highOf r) ≡ true → Gives r ls f (objectiveOf (reportedPoint f) ls) → le (f .norm) (r .tolerance) ≡ true →
+      (f : Fit) → checked r ls ≡ true → inBoxOf (reportedPoint f) (lowOf r) (highOf r) ≡ true → Gives r ls f (objectiveOf (reportedPoint f) ls) → le (f .norm) (r .tolerance) ≡ true →
       vetOf r ls (claimIn f) ≡ acceptedOf (length (listed at (objective legendreOf (reportedPoint f) ls))) (f .nll) (f .norm)
   by-report f p i g n =
       let a = facts-accept r ls (claimIn f) (record { passes = p; inside = i; answers = g .answered; likelihood = rw (g .nll) (same-self (f .nll)); norm = rw (g .norm) n }) in
@@ -129,13 +131,13 @@ module _ (r : Request) (ls : List ℕ) where
 
 module _ (r : Request) (ls : List ℕ) (c : Claim) where
   -- ---- the objective's checks pass wherever the box's test does
-  admitted : checked r ls ≡ true → boxed (pointIn c) (lowOf r) (highOf r) ≡ true → (validPoint (pointIn c) && validLitters ls) ≡ true
+  admitted : checked r ls ≡ true → inBoxOf (pointIn c) (lowOf r) (highOf r) ≡ true → (validPointOf (pointIn c) && validLittersOf ls) ≡ true
   admitted p i =
-      let h = and-second (validLimit (r .quadrature .0)) (admits r ls) p in
+      let h = and-second (validLimit (r .quadrature .0)) (admittedOf r ls) p in
       rw (inside-valid r ls h (pointIn c) (boxed-inside (lowOf r) (highOf r) (pointIn c) i), admitted-litters r ls h)
 
-  never-invalid : (validPoint (pointIn c) && validLitters ls) ≡ true → there r ls c .end ≡ InvalidInput → ⊥
-  unfolding objectiveOf limitedOf
+  never-invalid : (validPointOf (pointIn c) && validLittersOf ls) ≡ true → there r ls c .end ≡ InvalidInput → ⊥
+  unfolding objectiveOf limitedObjectiveOf
   never-invalid a e = metered-invalid at 8388608 0 (admitted-reasons legendreOf (pointIn c) ls a) e
 
   a-domain : (e : Ending) → (e ≡ InvalidInput → ⊥) → (e ≡ WorkBudget → ⊥) → isRefused e ≡ true → e ≡ ended.Domain (ending.reasonOf e)
@@ -149,7 +151,7 @@ module _ (r : Request) (ls : List ℕ) (c : Claim) where
   judged-domain lo hi tolerance x claimed o n h =
       split (isRefused (o .end))
       (λ t. (t, ap reasonOf (rw t at h)))
-      (λ t. split (sameBits (o .nll) claimed)
+      (λ t. split (sameBitsOf (o .v .nll) claimed)
       (λ s. split (le (accepted.sizeOf lo hi tolerance x claimed o) tolerance)
       (λ l. different _ _ (rw (t, s, l) at h) (λ e. omega arith))
       (λ l. different _ _ (rw (t, s, l) at h) (λ e. omega arith)))
@@ -160,7 +162,7 @@ module _ (r : Request) (ls : List ℕ) (c : Claim) where
   unfolding vetOf placedOf
   vet-domain n h =
       split (checked r ls)
-      (λ p. split (boxed (pointIn c) (lowOf r) (highOf r))
+      (λ p. split (inBoxOf (pointIn c) (lowOf r) (highOf r))
       (λ i.
       let j = judged-domain (lowOf r) (highOf r) (r .tolerance) (pointIn c) (c .nll) (there r ls c) n (rw (p, i) at h) in
       let e = a-domain (there r ls c .end) (never-invalid (admitted p i)) (objective-never-short (pointIn c) ls) (j .0) ∙ ap ended.Domain (j .1) in

@@ -4,10 +4,12 @@ use mathlib.Core.Bool.{true, false}
 use mathlib.Core.List.{List}
 use Prim.Native.Nat.{ℕ, _<_}
 use Rattle.work.specs.Metered.{split}
-use Rattle.objective.specs.Litters.{countOf, validLitters}
-use Rattle.objective.specs.Refused.{third-false, many-invalid}
+use Rattle.litters.specs.Litters.{countOf}
+use Rattle.litters.specs.Valid.{validLittersOf}
+use Rattle.litters.specs.Checks.{many-invalid}
 use Rattle.request.specs.declared.Request.{Request}
-use Rattle.request.specs.Request.{validBoxes, validControls, validLimit, twoEach, admits}
+use Rattle.request.specs.Request.{validLimit}
+use Rattle.request.specs.Checks.{not-admitted}
 use Rattle.claim.specs.declared.Claim.{Claim}
 use Rattle.claim.specs.declared.Verdict.the-variants.{InvalidInput}
 use Rattle.claim.specs.Claim.{refusalOf}
@@ -19,12 +21,8 @@ module _ (r : Request) (ls : List ℕ) (c : Claim) where
   unfolding vetOf
   unfit-refused h = rw h
 
-  not-admitted : validLitters ls ≡ false → admits r ls ≡ false
-  unfolding admits
-  not-admitted h = third-false (validBoxes r) (validControls r) (validLitters ls) (twoEach ls) h
-
-  pub invalid-refused : validLitters ls ≡ false → vetOf r ls c ≡ refusalOf InvalidInput 0
-  invalid-refused h = unfit-refused (split (validLimit (r .quadrature .0)) (λ t. rw (t, not-admitted h)) (λ t. rw t))
+  pub invalid-refused : validLittersOf ls ≡ false → vetOf r ls c ≡ refusalOf InvalidInput 0
+  invalid-refused h = unfit-refused (split (validLimit (r .quadrature .0)) (λ t. rw (t, not-admitted r ls h)) (λ t. rw t))
 
   pub many-refused : 128 < countOf ls → vetOf r ls c ≡ refusalOf InvalidInput 0
   many-refused h = invalid-refused (many-invalid ls h)

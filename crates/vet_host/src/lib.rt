@@ -5,9 +5,9 @@ use request::Request;
 ghost use mathlib.Core.Path.{_≡_};
 ghost use Prim.Native.Nat.{_≤_};
 ghost use lib.ListN.{length};
-ghost use Rattle.buffers.specs.Buffers.{given};
+ghost use Rattle.store.specs.Given.{given};
 ghost use Rattle.claim.specs.Claim.{claimFrom};
-ghost use Rattle.claim.specs.Give.{vettedPut};
+ghost use Rattle.claim.specs.Give.{putVettedOf};
 ghost use Rattle.vet.specs.Vet.{vetOf};
 
 fn claim_of(p: &[f64]) -> Claim
@@ -25,7 +25,7 @@ fn claim_of(p: &[f64]) -> Claim
 fn vetted(r: Request, litters: &[u32], c: Claim) -> Vetted
     ensures { λ v. ⌜ (v ≡ vetOf r (now (litters .entry)) c) × (now (litters .exit) ≡ now (litters .entry)) ⌝ }
 {
-    let k = litters::handed_on(litters.len());
+    let k = litters::table::handed_on(litters.len());
     vet::vet(r, &litters[..k], c)
 }
 
@@ -38,7 +38,7 @@ pub fn vet_in(
     counts: &mut [u64],
 ) -> u64
     requires { ⌜ (length (now claimed) ≡ 5) × (2 ≤ length (now numbers)) × (2 ≤ length (now counts)) ⌝ }
-    ensures { λ n. ⌜ given n (now (numbers .exit)) (now (counts .exit)) ≡ vettedPut (vetOf r (now (litters .entry)) (claimFrom (now (claimed .entry)))) (now (numbers .entry)) (now (counts .entry)) ⌝ }
+    ensures { λ n. ⌜ given n (now (numbers .exit)) (now (counts .exit)) ≡ putVettedOf (vetOf r (now (litters .entry)) (claimFrom (now (claimed .entry)))) (now (numbers .entry)) (now (counts .entry)) ⌝ }
     ensures { λ n. ⌜ (now (litters .exit) ≡ now (litters .entry)) × (now (claimed .exit) ≡ now (claimed .entry)) ⌝ }
 {
     let c = claim_of(claimed);

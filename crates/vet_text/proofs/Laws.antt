@@ -9,7 +9,7 @@ use lib.ListN.{length, take}
 use lib.Ieee.{Float}
 use borrow.Author.Tests.{eq-eqb, ne-eqb, not-true, not-false}
 use Rattle.num.specs.F64.{bitsOf}
-use Rattle.form.specs.Form.{ascii, render}
+use Rattle.template.specs.Template.{ascii, render}
 use Rattle.read.specs.Rows.{putLitters}
 use Rattle.print.specs.Answer.{refusalText}
 use Rattle.text.specs.Answer.{requestIn}

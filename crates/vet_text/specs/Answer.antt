@@ -6,7 +6,7 @@ use lib.Dec.{eqb}
 use lib.ListN.{getD}
 use lib.Ieee.{Float}
 use Rattle.num.specs.F64.{bits, bitsOf}
-use Rattle.form.specs.Form.{ascii, render}
+use Rattle.template.specs.Template.{ascii, render}
 use Rattle.print.specs.Answer.{refusalText}
 use Rattle.text.specs.Answer.{requestIn, littersOf}
 use Rattle.claim.specs.declared.Claim.{Claim}

@@ -7,9 +7,9 @@ use borrow.Table.Steps.{cases}
 use lib.Dec.{eqb}
 use lib.ListN.{length}
 use Rattle.num.specs.F64.{bitsOf}
-use Rattle.form.specs.Form.{ascii}
+use Rattle.template.specs.Template.{ascii}
 use Rattle.render.specs.Width.{width, length-render}
-use Rattle.objective.specs.Litters.{countOf}
+use Rattle.litters.specs.Litters.{countOf}
 use Rattle.print.specs.Answer.{refusalText}
 use Rattle.print.specs.Room.{room, refusal-fits}
 use Rattle.text.specs.Answer.{requestIn, littersOf}

@@ -17,7 +17,7 @@ use Rattle.descent.specs.declared.Trial.the-variants.{CutOff}
 use Rattle.descent.specs.Descent.{Problem, Asked, Step, to, nowhere, Descended, decreases, idle, idleTrial, accepts, acceptedTrial, try, orElse, search, ended, failed, descend, descent}
 use Rattle.trial.specs.declared.watch.Since.{Since}
 use Rattle.trial.specs.declared.watch.Since.the-variants.{Arrived, Missed}
-use Rattle.trial.specs.Watch.{sinceOf, sinceIn}
+use Rattle.trial.specs.Watch.{byNewestOf, sinceIn}
 use Rattle.why.specs.declared.Test.{Test}
 use Rattle.why.specs.declared.Test.the-variants.{Norm, Evaluations, Iterations, Halvings, Spent}
 use Rattle.why.specs.Why.{testIn, testOf}
@@ -25,7 +25,7 @@ use Rattle.why.specs.Why.{testIn, testOf}
 -- the newest n trials took no step, and none is cut off; before them a step was taken, or there is no trial
 pub data Misses : ℕ → List Trial → Type 0 where
   arrived : {ts : List Trial} → sinceIn ts ≡ Arrived → Misses 0 ts
-  missed : {n : ℕ} {t : Trial} {ts : List Trial} → sinceOf t ≡ Missed → Misses n ts → Misses (suc n) (t ∷ ts)
+  missed : {n : ℕ} {t : Trial} {ts : List Trial} → byNewestOf t ≡ Missed → Misses n ts → Misses (suc n) (t ∷ ts)
 
 -- the outcome of the source's tests in its order, as they were when the descent stopped with r
 pub data StoppedBy {X O D : Type 0} (p : Problem X O D) (r : Descended X O) : Test → Type 0 where
@@ -50,18 +50,18 @@ module _ {X O D : Type 0} (p : Problem X O D) where
   Every P w = Always P w
 
   data Trying : Step X O → Trial → Type 0 where
-    hit : {x : X} {v : O} {t : Trial} → sinceOf t ≡ Arrived → Trying (to x v) t
-    miss : {t : Trial} → sinceOf t ≡ Missed → Trying nowhere t
+    hit : {x : X} {v : O} {t : Trial} → byNewestOf t ≡ Arrived → Trying (to x v) t
+    miss : {t : Trial} → byNewestOf t ≡ Missed → Trying nowhere t
 
   data Sought : Step X O → ℕ → List Trial → Type 0 where
     found : {x : X} {v : O} {e : ℕ} {ts : List Trial} → sinceIn ts ≡ Arrived → Sought (to x v) e ts
     halved : {e : ℕ} {ts : List Trial} → Misses 48 ts → Sought nowhere e ts
     cut : {e m : ℕ} {ts : List Trial} → leb (p .most) e ≡ true → m < 48 → Misses m ts → Sought nowhere e (CutOff ∷ ts)
 
-  idle-missed : (x : X) (v : O) (next : X) → sinceOf (idleTrial p x v next) ≡ Missed
+  idle-missed : (x : X) (v : O) (next : X) → byNewestOf (idleTrial p x v next) ≡ Missed
   idle-missed x v next = split (le zero· (p .slope x v next)) (λ b. rw b) (λ b. rw b)
 
-  accepted-arrived : (x : X) (v : O) (next : X) (c : O) → sinceOf (acceptedTrial p x v next c) ≡ Arrived
+  accepted-arrived : (x : X) (v : O) (next : X) (c : O) → byNewestOf (acceptedTrial p x v next c) ≡ Arrived
   accepted-arrived x v next c = split (decreases (p .nll v) (p .slope x v next) (p .nll c)) (λ b. rw b) (λ b. rw b)
 
   tried : (x : X) (v : O) (d : D) (alpha : Float) (e : ℕ) (ts : List Trial) → Every (λ t. Trying (t .step) (t .trial)) (try p x v d alpha e ts)
@@ -71,11 +71,11 @@ module _ {X O D : Type 0} (p : Problem X O D) where
       tested (idle p x v next) (λ t. holds (miss (idle-missed x v next)))
       (λ t. hears (λ c q. tested (accepts p x v next c) (λ t. holds (hit (accepted-arrived x v next c))) (λ t. holds (miss refl))))
 
-  by-try : {B : Type 0} {R : B → Type 0} {s : Step X O} {t : Trial} {go : X → O → Work (Asked X) O B} {halt : Work (Asked X) O B} → Trying s t → ((x : X) (v : O) → sinceOf t ≡ Arrived → Every R (go x v)) → (sinceOf t ≡ Missed → Every R halt) → Every R (orElse p go halt s)
+  by-try : {B : Type 0} {R : B → Type 0} {s : Step X O} {t : Trial} {go : X → O → Work (Asked X) O B} {halt : Work (Asked X) O B} → Trying s t → ((x : X) (v : O) → byNewestOf t ≡ Arrived → Every R (go x v)) → (byNewestOf t ≡ Missed → Every R halt) → Every R (orElse p go halt s)
   by-try (hit h) g k = g _ _ h
   by-try (miss h) g k = k h
 
-  found-by : {s : Step X O} {t : Trial} (e : ℕ) (ts : List Trial) → Trying s t → sinceOf t ≡ Arrived → Sought s e (t ∷ ts)
+  found-by : {s : Step X O} {t : Trial} (e : ℕ) (ts : List Trial) → Trying s t → byNewestOf t ≡ Arrived → Sought s e (t ∷ ts)
   found-by e ts (hit h) a = found a
   found-by e ts (miss h) a = not-both (cc)
 

@@ -62,10 +62,10 @@ why-is n d =
 -- ---- what stopped it
 
 -- the evaluations were spent: no trial since the last step, 48 of them, or fewer
-abbrev pub testSince : Since → Test
-testSince Arrived = Evaluations
-testSince Missed = Halvings
-testSince Cut = Spent
+abbrev pub spentByOf : Since → Test
+spentByOf Arrived = Evaluations
+spentByOf Missed = Halvings
+spentByOf Cut = Spent
 
 abbrev pub testBy : Status → Test → Test
 testBy NoStatus spent = NoTest
@@ -75,7 +75,7 @@ testBy IterationLimit spent = Iterations
 testBy LineSearchFailed spent = Halvings
 
 abbrev pub testIn : Status → Since → Test
-testIn status s = testBy status (testSince s)
+testIn status s = testBy status (spentByOf s)
 
 -- of what a descent came to: specs/Stopped.antt proves that this is the branch it took
 abbrev pub testOf : {X O : Type 0} → Descended X O → Test

@@ -1,4 +1,4 @@
--- `valid` meets its contract: a litter by itself is valid as one of a list is.
+-- `valid` meets its contract, word by word.
 use Rattle.archive.proofs.Laws.{valid-is}
 use borrow.Author.Needs.{needs}
 use Rattle.archive.proofs.valid.Statement.{statement}
@@ -17,6 +17,5 @@ valid-spec =
     (λ c. search needs)
     (λ c κs. search needs)
     (λ c κs. search needs)
-    (λ c. search needs)
     (λ c κs. search needs)
     returns)

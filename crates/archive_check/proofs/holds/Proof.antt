@@ -3,7 +3,7 @@ use mathlib.Core.Path.{_≡_}
 use Prim.Native.Nat.{_+_, _-_, _≤_}
 use borrow.Author.Tests.{not-false}
 use Rattle.num.specs.Choose.{choose}
-use Rattle.archive.specs.Counts.{BothBelow, countsTo, room}
+use Rattle.archive.specs.Counts.{BothBelow, countsTo, capacity}
 use Rattle.archive.specs.Most.{raised, none-below}
 use Rattle.archive_check.specs.Check.{holdsFrom}
 use Rattle.archive_check.proofs.Laws.{none-yet, invalid-litter, counts-next, wrong-totals, holds-next, holds-begin, holds-done}
@@ -22,7 +22,7 @@ loop-holds : tie.Need-loop-holds Inv-loop μ-loop
 loop-holds c = (omega arith, none-below _ 1 (c .none .ensures), none-yet _ _ (c .none .ensures), holds-begin _ _)
 
 after-requires : tie.Need-after-requires Inv-loop μ-loop
-after-requires c κs = let l = c .before .before .before .loop in (raised _ (l .i + 1) room (omega arith) (l .inv .1), omega arith)
+after-requires c κs = let l = c .before .before .before .loop in (raised _ (l .i + 1) capacity (omega arith) (l .inv .1), omega arith)
 
 totals-hold-requires : tie.Need-totals-hold-requires Inv-loop μ-loop
 totals-hold-requires c κs = (search needs, omega arith, omega arith)

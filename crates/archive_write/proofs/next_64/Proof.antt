@@ -1,7 +1,7 @@
 -- `next_64` meets its contract: c is what the first m litters count.
 use mathlib.Core.Path.{_≡_}
 use Prim.Native.Nat.{_+_, _-_, _≤_}
-use Rattle.archive.specs.Counts.{BothBelow, room}
+use Rattle.archive.specs.Counts.{BothBelow, capacity}
 use Rattle.archive.specs.Most.{raised}
 use Rattle.archive_write.specs.Archive.{countedTo}
 use Rattle.archive_write.proofs.Laws.{counted-turn, counted-done, below-done}
@@ -20,7 +20,7 @@ loop-holds : tie.Need-loop-holds Inv-loop μ-loop
 loop-holds c = (omega arith, omega arith, search needs, search needs)
 
 with-litter-requires : tie.Need-with-litter-requires Inv-loop μ-loop
-with-litter-requires c κs = let l = c .before .before .before .before .loop in raised _ (l .m + 1) room (omega arith) (l .inv .3)
+with-litter-requires c κs = let l = c .before .before .before .before .loop in raised _ (l .m + 1) capacity (omega arith) (l .inv .3)
 
 loop-again : tie.Need-loop-again Inv-loop μ-loop
 loop-again c =

@@ -1,11 +1,11 @@
 -- `buffers::fit_counts` meets its contract.
 use borrow.Author.Needs.{needs}
-use Rattle.buffers.specs.Buffers.{fitCounts}
+use Rattle.buffers.specs.Buffers.{fitCountsOf}
 use Rattle.buffers.proofs.fit_counts.Statement.{statement}
 use Rattle.buffers.proofs.fit_counts.Tie as tie
 
 pub fit-counts-spec : {M : Type 1} → statement M
-unfolding fitCounts
+unfolding fitCountsOf
 fit-counts-spec =
     tie.close
     (tie.spec

@@ -1,11 +1,11 @@
 -- `claim::in_box` meets its contract, by what its callees ensure.
-use Rattle.claim.specs.Claim.{boxed}
+use Rattle.claim.specs.Claim.{inBoxOf}
 use borrow.Author.Needs.{needs}
 use Rattle.claim.proofs.in_box.Statement.{statement}
 use Rattle.claim.proofs.in_box.Tie as tie
 
 returns : tie.Need-returns
-unfolding boxed
+unfolding inBoxOf
 returns c =
     let b = c .before in
     let a = b .before in

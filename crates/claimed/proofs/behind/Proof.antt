@@ -1,7 +1,7 @@
 -- `claimed::behind` meets its contract: no claim, something after it, or the claim.
 use native.Mathlib.Omega.{arith}
 use lib.Dec.{lit≤}
-use Rattle.form.specs.Form.{holes}
+use Rattle.template.specs.Template.{holes}
 use Rattle.claimed.specs.Claimed.{claim}
 use borrow.Author.Needs.{needs}
 use Rattle.claimed.proofs.Laws.{behind-departs, behind-goes-on, behind-ends}

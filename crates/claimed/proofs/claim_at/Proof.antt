@@ -2,14 +2,14 @@
 use mathlib.Core.Path.{_≡_}
 use Prim.Native.Nat.{_+_, _-_, _≤_}
 use lib.ListN.{length, drop}
-use Rattle.claimed.specs.Claimed.{claimAt}
+use Rattle.claimed.specs.Claimed.{claimAtOf}
 use borrow.Author.Needs.{needs}
 use Rattle.claimed.proofs.Laws.{claim-start, claim-here, claim-later, claim-nowhere}
 use Rattle.claimed.proofs.claim_at.Statement.{statement}
 use Rattle.claimed.proofs.claim_at.Tie as tie
 
 abbrev Inv-loop : tie.InvT-loop
-Inv-loop text last₀ i₀ n last i = (claimAt 10 text ≡ i + claimAt last (drop i text)) × (i ≤ length text)
+Inv-loop text last₀ i₀ n last i = (claimAtOf 10 text ≡ i + claimAtOf last (drop i text)) × (i ≤ length text)
 
 abbrev μ-loop : tie.MeasureT-loop
 μ-loop text last₀ i₀ n last i = length text - i

@@ -1,11 +1,11 @@
 -- `fit_counts` meets its contract.
 use borrow.Author.Needs.{needs}
-use Rattle.counts_host.specs.Host.{fitCounts}
+use Rattle.counts_host.specs.Host.{fitCountsOf}
 use Rattle.counts_host.proofs.fit_counts.Statement.{statement}
 use Rattle.counts_host.proofs.fit_counts.Tie as tie
 
 pub fit-counts-spec : {M : Type 1} → statement M
-unfolding fitCounts
+unfolding fitCountsOf
 fit-counts-spec =
     tie.close
     (tie.spec

@@ -1,9 +1,9 @@
 -- `fit_room` meets its contract.
 use borrow.Author.Needs.{needs}
-use Rattle.counts_host.specs.Host.{fitRoom}
+use Rattle.counts_host.specs.Host.{fitRoomOf}
 use Rattle.counts_host.proofs.fit_room.Statement.{statement}
 use Rattle.counts_host.proofs.fit_room.Tie as tie
 
 pub fit-room-spec : {M : Type 1} → statement M
-unfolding fitRoom
+unfolding fitRoomOf
 fit-room-spec = tie.close (tie.spec (λ c κs. search needs) (λ c κs. search needs) (λ c. rw (c .both2 .ensures, c .before .both .ensures)))

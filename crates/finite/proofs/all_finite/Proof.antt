@@ -3,7 +3,7 @@ use mathlib.Core.Path.{_≡_, refl}
 use Prim.Native.Nat.{_-_}
 use native.Mathlib.Nat.{sub-zero}
 use lib.ListN.{length}
-use Rattle.finite.specs.Finite.{finiteFrom, allFinite}
+use Rattle.finite.specs.Finite.{finiteFrom, allFiniteOf}
 use Rattle.finite.proofs.Laws.{finite-stops, finite-turn, finite-done}
 use borrow.Author.Needs.{needs}
 use Rattle.num.specs.Choose.{choose}
@@ -11,13 +11,13 @@ use Rattle.finite.proofs.all_finite.Statement.{statement}
 use Rattle.finite.proofs.all_finite.Tie as tie
 
 abbrev Inv-loop : tie.InvT-loop
-Inv-loop v i₀ i-end i = finiteFrom v (length v - i) i ≡ allFinite v
+Inv-loop v i₀ i-end i = finiteFrom v (length v - i) i ≡ allFiniteOf v
 
 abbrev μ-loop : tie.MeasureT-loop
 μ-loop v i₀ i-end i = length v - i
 
 loop-holds : tie.Need-loop-holds Inv-loop μ-loop
-unfolding allFinite
+unfolding allFiniteOf
 loop-holds c = rw (sub-zero (length (c .before .args .v .now)))
 
 pub all-finite-spec : {M : Type 1} → statement M

@@ -9,7 +9,7 @@ use lib.ListN.{length, take, set}
 use lib.Seq.{take-all, take-suc-set}
 use Rattle.num.specs.Left.{left-one, left-none}
 use Rattle.legendre.specs.declared.Pair.{Pair}
-use Rattle.legendre.specs.Legendre.{pairOf, pairs, legendreOf}
+use Rattle.legendre.specs.Legendre.{nodeAndWeightOf, pairs, legendreOf}
 use Rattle.legendre.proofs.legendre.Statement.{statement}
 use Rattle.legendre.proofs.legendre.Tie as tie
 
@@ -20,7 +20,7 @@ abbrev μ-loop : tie.MeasureT-loop
 μ-loop rule₀ i₀ rule i = 16 - i
 
 module _ (all rule : List Pair) (i : ℕ) (n : length rule ≡ 16) (v : take i rule ++ pairs (16 - i) (i + 1) ≡ all) where
-  turns : (p : Pair) → i < 16 → p ≡ pairOf (i + 1) → take (i + 1) (set rule i p) ++ pairs (16 - (i + 1)) (i + 1 + 1) ≡ all
+  turns : (p : Pair) → i < 16 → p ≡ nodeAndWeightOf (i + 1) → take (i + 1) (set rule i p) ++ pairs (16 - (i + 1)) (i + 1 + 1) ≡ all
   unfolding pairs
   turns p h e =
       let b : i < length rule = omega arith in

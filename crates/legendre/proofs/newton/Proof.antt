@@ -10,7 +10,7 @@ use Rattle.num.specs.Helpers.{absOf}
 use Rattle.num.specs.Left.{left-one, left-none}
 use Rattle.legendre.specs.declared.Node.{Node}
 use Rattle.legendre.specs.declared.Polynomial.{Polynomial}
-use Rattle.legendre.specs.Legendre.{polynomialOf, derivativeAt, nextFrom, small-move, newtonFrom, newtonOf}
+use Rattle.legendre.specs.Legendre.{recurrenceOf, derivativeAt, nextFrom, small-move, newtonFrom, newtonOf}
 use Rattle.legendre.proofs.newton.Statement.{statement}
 use Rattle.legendre.proofs.newton.Tie as tie
 
@@ -25,7 +25,7 @@ turn :
     (all r : Node) (x d : Float) (k : ℕ) (p : Polynomial) (a : Float) →
     newtonFrom (20 - k) x d ≡ all →
     k < 20 →
-    p ≡ polynomialOf x →
+    p ≡ recurrenceOf x →
     a ≡ absOf (nextFrom x p ⊖ x) →
     r
     ≡ cond (lt a small-move) (record { x = nextFrom x p; derivative = derivativeAt x p }) (newtonFrom (20 - (k + 1)) (nextFrom x p) (derivativeAt x p)) →

@@ -7,12 +7,12 @@ use lib.Ieee.{Float}
 use Rattle.num.specs.F64.{_⊖_, _⊗_, _⊘_, whole}
 use Rattle.num.specs.Left.{left-one, left-none}
 use Rattle.legendre.specs.declared.Polynomial.{Polynomial}
-use Rattle.legendre.specs.Legendre.{degrees, polynomialOf}
+use Rattle.legendre.specs.Legendre.{degrees, recurrenceOf}
 use Rattle.legendre.proofs.recurrence.Statement.{statement}
 use Rattle.legendre.proofs.recurrence.Tie as tie
 
 abbrev Inv-loop : tie.InvT-loop
-Inv-loop x p0₀ p1₀ j₀ p0 p1 j = (2 ≤ j) × (degrees x (17 - j) j p0 p1 ≡ polynomialOf x)
+Inv-loop x p0₀ p1₀ j₀ p0 p1 j = (2 ≤ j) × (degrees x (17 - j) j p0 p1 ≡ recurrenceOf x)
 
 abbrev μ-loop : tie.MeasureT-loop
 μ-loop x p0₀ p1₀ j₀ p0 p1 j = 17 - j
@@ -27,7 +27,7 @@ module _ (all : Polynomial) (x p0 p1 : Float) (j : ℕ) (i : degrees x (17 - j) 
   ends h = rw (left-none 17 j h) at i
 
 pub recurrence-spec : {M : Type 1} → statement M
-unfolding polynomialOf
+unfolding recurrenceOf
 recurrence-spec =
     tie.close
     (tie.spec

@@ -11,9 +11,12 @@ confirm-spec =
     (tie.spec
     (λ c κs. search needs)
     (λ c κs. search needs)
+    (λ c κs. search needs)
     (λ c. search (confirm-stops, choose))
     (λ c κs. search needs)
     (λ c κs. search needs)
+    (λ c κs. search needs)
     (λ c. search (confirm-goes, choose) fits 8000 depth 8)
+    (λ c κs. search needs)
     (λ c. search (confirm-goes, choose) fits 8000 depth 8)
     (λ c. search (confirm-goes, choose) fits 8000 depth 8))

@@ -12,6 +12,7 @@ find-spec =
     (λ c κs. search needs)
     (λ c κs. search needs)
     (λ c κs. search needs)
+    (λ c κs. search needs)
     (λ c. search (mode-goes, choose))
     (λ c κs. search needs)
     (λ c. search (mode-goes, choose)))

@@ -1,11 +1,11 @@
 -- `quadrature::refined` meets its contract, by what its callee ensures.
-use Rattle.quadrature.specs.Quadrature.{refinementOf}
+use Rattle.quadrature.specs.Quadrature.{refinedOf}
 use borrow.Author.Needs.{needs}
 use Rattle.quadrature.proofs.refined.Statement.{statement}
 use Rattle.quadrature.proofs.refined.Tie as tie
 
 pub refined-spec : {M : Type 1} → statement M
-unfolding refinementOf
+unfolding refinedOf
 refined-spec =
     tie.close
     (tie.spec

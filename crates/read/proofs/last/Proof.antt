@@ -1,15 +1,15 @@
 -- `read::last` meets its contract.
 use native.Mathlib.Omega.{arith}
 use lib.Dec.{lit≤}
-use Rattle.form.specs.Form.{holes}
-use Rattle.read.specs.Request.{rows}
+use Rattle.template.specs.Template.{holes}
+use Rattle.read.specs.Request.{closing}
 use borrow.Author.Needs.{needs}
 use Rattle.read.proofs.Laws.{last-departs, last-miscounts, last-misplaces, last-goes-on, last-ends}
 use Rattle.read.proofs.last.Statement.{statement}
 use Rattle.read.proofs.last.Tie as tie
 
 pub last-spec : {M : Type 1} → statement M
-unfolding holes rows
+unfolding holes closing
 last-spec =
     tie.close
     (tie.spec

@@ -2,7 +2,7 @@
 use mathlib.Core.Path.{ap, _∙_}
 use native.Mathlib.Omega.{arith}
 use lib.Dec.{lit≤}
-use Rattle.form.specs.Form.{holes}
+use Rattle.template.specs.Template.{holes}
 use Rattle.read.specs.Request.{head}
 use Rattle.read.specs.Rows.{askingOf}
 use borrow.Author.Needs.{needs}

@@ -5,7 +5,7 @@ use Prim.Native.Nat.{ℕ, _+_, _-_, _≤_, _<_}
 use native.Mathlib.Omega.{arith}
 use lib.Dec.{lit≤}
 use lib.ListN.{length, drop}
-use Rattle.form.specs.Form.{holes}
+use Rattle.template.specs.Template.{holes}
 use Rattle.read.specs.Request.{litter, readRows}
 use Rattle.read.specs.Rows.{fillRows, departedOf, askingOf}
 use borrow.Author.Needs.{needs}

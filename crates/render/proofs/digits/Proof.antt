@@ -4,7 +4,7 @@ use Prim.Native.Nat.{_-_, _≤_}
 use native.Mathlib.Omega.{arith}
 use borrow.Author.Needs.{needs}
 use lib.ListN.{length}
-use Rattle.form.specs.Digits.{digits}
+use Rattle.template.specs.Digits.{digits}
 use Rattle.render.specs.Written.{written}
 use Rattle.render.proofs.Laws.{digit-small, digits-begin, digits-turn, digits-done}
 use Rattle.render.proofs.digits.Statement.{statement}

@@ -3,7 +3,7 @@ use mathlib.Core.Path.{_≡_}
 use Prim.Native.Nat.{_+_, _-_, _≤_}
 use native.Mathlib.Omega.{arith}
 use borrow.Author.Needs.{needs}
-use Rattle.form.specs.Digits.{placesFrom}
+use Rattle.template.specs.Digits.{placesFrom}
 use Rattle.render.proofs.Laws.{places-ends, places-turn, places-done}
 use Rattle.render.proofs.places.Statement.{statement}
 use Rattle.render.proofs.places.Tie as tie

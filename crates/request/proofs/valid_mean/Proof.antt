@@ -1,11 +1,11 @@
 -- `request::valid_mean` meets its contract, by what its callees ensure.
-use Rattle.request.specs.Request.{validMean}
+use Rattle.request.specs.Request.{validMeanOf}
 use borrow.Author.Needs.{needs}
 use Rattle.request.proofs.valid_mean.Statement.{statement}
 use Rattle.request.proofs.valid_mean.Tie as tie
 
 pub valid-mean-spec : {M : Type 1} → statement M
-unfolding validMean
+unfolding validMeanOf
 valid-mean-spec =
     tie.close
     (tie.spec

@@ -1,11 +1,11 @@
 -- `request::valid_sd` meets its contract, by what its callees ensure.
-use Rattle.request.specs.Request.{validSd}
+use Rattle.request.specs.Request.{validSdOf}
 use borrow.Author.Needs.{needs}
 use Rattle.request.proofs.valid_sd.Statement.{statement}
 use Rattle.request.proofs.valid_sd.Tie as tie
 
 pub valid-sd-spec : {M : Type 1} → statement M
-unfolding validSd
+unfolding validSdOf
 valid-sd-spec =
     tie.close
     (tie.spec

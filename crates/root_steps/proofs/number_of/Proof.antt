@@ -1,6 +1,6 @@
--- `number_of` reads by a form with one value.
+-- `number_of` reads by a template with one value.
 use lib.Dec.{lit≤}
-use Rattle.form.specs.Form.{holes}
+use Rattle.template.specs.Template.{holes}
 use borrow.Author.Needs.{needs}
 use Rattle.root_steps.proofs.number_of.Statement.{statement}
 use Rattle.root_steps.proofs.number_of.Tie as tie

@@ -4,19 +4,20 @@ use Prim.Native.Nat.{_+_, _-_, _*_, _/_}
 use native.Mathlib.Omega.{arith}
 use lib.ListN.{length}
 use Rattle.summary.specs.Summary.{plusOf, countsFrom, countsOf}
-use Rattle.summary.proofs.Laws.{Within, within-none, within-more, adds, counts-begin, counts-turn, counts-done}
+use Rattle.summary.specs.Most.{Below, none-most, adds, more}
+use Rattle.summary.proofs.Laws.{counts-begin, counts-turn, counts-done}
 use borrow.Author.Needs.{needs}
 use Rattle.summary.proofs.counts.Statement.{statement}
 use Rattle.summary.proofs.counts.Tie as tie
 
 abbrev Inv-loop : tie.InvT-loop
-Inv-loop litters asked n c₀ i₀ c i = (n ≡ length litters / 3) × Within c i × (plusOf c (countsFrom litters asked (n - i) i) ≡ countsOf litters asked)
+Inv-loop litters asked n c₀ i₀ c i = (n ≡ length litters / 3) × Below c i × (plusOf c (countsFrom litters asked (n - i) i) ≡ countsOf litters asked)
 
 abbrev μ-loop : tie.MeasureT-loop
 μ-loop litters asked n c₀ i₀ c i = n - i
 
 loop-holds : tie.Need-loop-holds Inv-loop μ-loop
-loop-holds c = (refl, rw (c .no-counts .ensures) (within-none _), rw (c .no-counts .ensures) (counts-begin _ _))
+loop-holds c = (refl, rw (c .no-counts .ensures) (none-most _), rw (c .no-counts .ensures) (counts-begin _ _))
 
 plus-requires : tie.Need-plus-requires Inv-loop μ-loop
 plus-requires c κs =
@@ -24,7 +25,7 @@ plus-requires c κs =
     let l = known .before .before in
     let i = l .loop .i in
     let number = known .shared-slice-known2 .given in
-    adds _ _ _ _ _ _ _ (l .loop .inv .1) (c .litter-counts .ensures) (omega (arith, number (3 * i))) (omega (arith, number (3 * i + 1))) (omega arith)
+    adds _ _ _ _ _ _ (c .litter-counts .ensures) (omega (arith, number (3 * i))) (omega (arith, number (3 * i + 1))) i (l .loop .inv .1) (omega arith)
 
 loop-again : tie.Need-loop-again Inv-loop μ-loop
 loop-again c =
@@ -35,7 +36,7 @@ loop-again c =
     let number = known .shared-slice-known2 .given in
     let v = l .loop .inv in
     let one = d .litter-counts .ensures in
-    (v .0, within-more _ _ _ _ _ _ _ (v .1) one (omega (arith, number (3 * i))) (omega (arith, number (3 * i + 1))) _ (c .plus .ensures), counts-turn _ _ _ _ _ _ (v .2) _ _ (known .before .loop-test .taken) one (c .plus .ensures))
+    (v .0, more _ _ _ _ _ _ one (omega (arith, number (3 * i))) (omega (arith, number (3 * i + 1))) i (v .1) _ (c .plus .ensures), counts-turn _ _ _ _ _ _ (v .2) _ _ (known .before .loop-test .taken) one (c .plus .ensures))
 
 returns : tie.Need-returns Inv-loop μ-loop
 returns c = (search counts-done, refl)

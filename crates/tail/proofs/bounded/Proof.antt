@@ -11,10 +11,13 @@ bounded-spec =
     (tie.spec
     (λ c κs. search needs)
     (λ c κs. search needs)
+    (λ c κs. search needs)
     (λ c. search (range-stops, choose))
     (λ c κs. search needs)
     (λ c κs. search needs)
+    (λ c κs. search needs)
     (λ c. search (range-goes, choose) fits 8000 depth 8)
     (λ c κs. search needs)
     (λ c. search (range-goes, choose) fits 8000 depth 8)
+    (λ c κs. search needs)
     (λ c. search (range-goes, choose) fits 8000 depth 8))

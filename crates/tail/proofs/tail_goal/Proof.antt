@@ -11,7 +11,9 @@ tail-goal-spec =
     (tie.spec
     (λ c κs. search needs)
     (λ c κs. search needs)
+    (λ c κs. search needs)
     (λ c. search (goal-stops, choose))
+    (λ c κs. search needs)
     (λ c κs. search needs)
     (λ c κs. search needs)
     (λ c. search (goal-stops-right, choose) fits 8000 depth 8)

@@ -3,7 +3,7 @@ use mathlib.Core.Path.{_≡_}
 use Prim.Native.Nat.{_+_, _-_, _*_, _/_, _≤_}
 use native.Mathlib.Omega.{arith}
 use borrow.Author.Needs.{needs}
-use Rattle.archive.specs.Counts.{BothBelow, room}
+use Rattle.archive.specs.Counts.{BothBelow, capacity}
 use Rattle.archive.specs.Most.{raised}
 use Rattle.archive_range.specs.Reads.{littersFrom, summed, runningOf}
 use Rattle.archive_range.proofs.Laws.{sum-begin, sum-turn, sum-done}
@@ -20,7 +20,7 @@ loop-holds : tie.Need-loop-holds Inv-loop μ-loop
 loop-holds c = (omega arith, raised _ 1 (64 * (c .before .before .args .p / 64) + 1) (omega arith) (c .last-total .ensures .1), sum-begin _ _ _ (c .last-total .ensures .0))
 
 after-requires : tie.Need-after-requires Inv-loop μ-loop
-after-requires c κs = let l = c .before .loop in (raised _ (l .i + 1) room (omega arith) (l .inv .1), omega arith)
+after-requires c κs = let l = c .before .loop in (raised _ (l .i + 1) capacity (omega arith) (l .inv .1), omega arith)
 
 loop-again : tie.Need-loop-again Inv-loop μ-loop
 loop-again c = let l = c .before .before .loop in (omega arith, c .after .ensures .1 (l .i + 1) (l .inv .1), search sum-turn)

@@ -4,13 +4,13 @@ use Prim.Native.Nat.{_-_, _≤_}
 use native.Mathlib.Omega.{arith}
 use borrow.Author.Needs.{needs}
 use Rattle.num.specs.Choose.{choose}
-use Rattle.archive_range.specs.Reads.{littersFrom, readsOf, validReads}
+use Rattle.archive_range.specs.Reads.{littersFrom, readsOf, validReadsOf}
 use Rattle.archive_range.proofs.Laws.{valid-begin, valid-stops, valid-goes, valid-done}
 use Rattle.archive_range.proofs.running.valid_reads.Statement.{statement}
 use Rattle.archive_range.proofs.running.valid_reads.Tie as tie
 
 abbrev Inv-loop : tie.InvT-loop
-Inv-loop b p k₀ k = (k ≤ p) × (validReads b (littersFrom (p - k) k) ≡ validReads b (readsOf p))
+Inv-loop b p k₀ k = (k ≤ p) × (validReadsOf b (littersFrom (p - k) k) ≡ validReadsOf b (readsOf p))
 
 abbrev μ-loop : tie.MeasureT-loop
 μ-loop b p k₀ k = p - k

@@ -6,14 +6,14 @@ use lib.ListN.{getD}
 use lib.Ieee.{nan}
 use Rattle.num.specs.F64.{_⊖_}
 use Rattle.lanes.specs.Filled.{turns, ends, Filling}
-use Rattle.normal.specs.Normal.{logPhi}
+use Rattle.normal.specs.Normal.{logPhiOf}
 use Rattle.conditionals.specs.Normals.{gapsOf}
 use Rattle.conditionals.proofs.NormalsLaws.{gap}
 use Rattle.conditionals.proofs.normals.gaps.Statement.{statement}
 use Rattle.conditionals.proofs.normals.gaps.Tie as tie
 
 abbrev Inv-loop : tie.InvT-loop
-Inv-loop x log v₀ i₀ v i = Filling (λ i. logPhi (getD x i nan) ⊖ getD log i nan) (gapsOf x log) v i
+Inv-loop x log v₀ i₀ v i = Filling (λ i. logPhiOf (getD x i nan) ⊖ getD log i nan) (gapsOf x log) v i
 
 abbrev μ-loop : tie.MeasureT-loop
 μ-loop x log v₀ i₀ v i = 16 - i

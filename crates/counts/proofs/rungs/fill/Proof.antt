@@ -6,8 +6,8 @@ use native.Mathlib.Omega.{arith}
 use lib.ListN.{length}
 use lib.Ieee.{Float}
 use Rattle.counts.specs.declared.share.Rising.{Rising}
-use Rattle.counts.specs.Share.{noRising, termAt, passOf, risingFrom, risingOf}
-use Rattle.counts.specs.Rungs.{withRung, Held, held-none, held-next, rising-next}
+use Rattle.counts.specs.Share.{noRising, termAt, passedOf, risingFrom, risenOf}
+use Rattle.counts.specs.Rungs.{setRungOf, Held, held-none, held-next, rising-next}
 use borrow.Author.Needs.{needs}
 use Rattle.counts.proofs.rungs.fill.Statement.{statement}
 use Rattle.counts.proofs.rungs.fill.Tie as tie
@@ -16,16 +16,16 @@ record Filled (shape : Float) (top : ℕ) (l : List Float) (s : Rising) (k : ℕ
   few : top ≤ 63
   within : k ≤ top
   held : Held shape k l
-  sums : s ≡ risingOf shape k
+  sums : s ≡ risenOf shape k
 
-begins : (shape : Float) (top : ℕ) (l m : List Float) (s : Rising) → top ≤ 63 → length l ≡ 192 → s ≡ noRising → m ≡ withRung l 0 s → Filled shape top m s 0
-unfolding risingFrom risingOf
+begins : (shape : Float) (top : ℕ) (l m : List Float) (s : Rising) → top ≤ 63 → length l ≡ 192 → s ≡ noRising → m ≡ setRungOf l 0 s → Filled shape top m s 0
+unfolding risingFrom risenOf
 begins shape top l m s a n z e = record { few = a; within = omega arith; held = held-none shape l m s z n e; sums = z }
 
 module _ (shape : Float) (top : ℕ) (l : List Float) (s : Rising) (k : ℕ) (f : Filled shape top l s k) where
-  turns : (t : Rising) (m : List Float) → k < top → t ≡ passOf s (termAt shape k) → m ≡ withRung l (k + 1) t → Filled shape top m t (k + 1)
+  turns : (t : Rising) (m : List Float) → k < top → t ≡ passedOf s (termAt shape k) → m ≡ setRungOf l (k + 1) t → Filled shape top m t (k + 1)
   turns t m h e g =
-      let r : t ≡ risingOf shape (k + 1) = e ∙ rw (f .sums) (rising-next shape k) in
+      let r : t ≡ risenOf shape (k + 1) = e ∙ rw (f .sums) (rising-next shape k) in
       record { few = f .few; within = omega arith; held = held-next shape l m t k (f .held) r (omega (arith, f .few)) g; sums = r }
 
   ends : top ≤ k → Held shape top l

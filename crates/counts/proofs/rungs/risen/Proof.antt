@@ -7,8 +7,8 @@ use lib.ListN.{length}
 use lib.Ieee.{Float}
 use Rattle.num.specs.Left.{left-one, left-none}
 use Rattle.counts.specs.declared.share.Rising.{Rising}
-use Rattle.counts.specs.Share.{termAt, passOf, risingFrom, risingOf}
-use Rattle.counts.specs.Rungs.{rungAt, Held, rising-on}
+use Rattle.counts.specs.Share.{termAt, passedOf, risingFrom, risenOf}
+use Rattle.counts.specs.Rungs.{rungAtOf, Held, rising-on}
 use borrow.Author.Needs.{needs}
 use Rattle.counts.proofs.rungs.risen.Statement.{statement}
 use Rattle.counts.proofs.rungs.risen.Tie as tie
@@ -18,20 +18,20 @@ module _ (shape : Float) (top : ℕ) (l : List Float) (h : Held shape top l) (k 
   room : 3 * k + 2 < length l
   room = omega (arith, h .few, h .sized)
 
-  begins : (n : ℕ) (s : Rising) → k ≤ n → s ≡ rungAt l k → risingFrom shape (n - k) k s ≡ risingOf shape n
+  begins : (n : ℕ) (s : Rising) → k ≤ n → s ≡ rungAtOf l k → risingFrom shape (n - k) k s ≡ risenOf shape n
   begins n s a e = rw (e ∙ h .holds k b) (rising-on shape n k a)
 
-module _ (shape : Float) (n k : ℕ) (s : Rising) (v : risingFrom shape (n - k) k s ≡ risingOf shape n) where
-  turns : (t : Rising) → k < n → t ≡ passOf s (termAt shape k) → risingFrom shape (n - (k + 1)) (k + 1) t ≡ risingOf shape n
+module _ (shape : Float) (n k : ℕ) (s : Rising) (v : risingFrom shape (n - k) k s ≡ risenOf shape n) where
+  turns : (t : Rising) → k < n → t ≡ passedOf s (termAt shape k) → risingFrom shape (n - (k + 1)) (k + 1) t ≡ risenOf shape n
   unfolding risingFrom
   turns t h e = rw e (rw (left-one n k h) at v)
 
-  ends : n ≤ k → s ≡ risingOf shape n
+  ends : n ≤ k → s ≡ risenOf shape n
   unfolding risingFrom
   ends h = rw (left-none n k h) at v
 
 abbrev Inv-loop : tie.InvT-loop
-Inv-loop shape count top rungs first s₀ k₀ s k = risingFrom shape (count - k) k s ≡ risingOf shape count
+Inv-loop shape count top rungs first s₀ k₀ s k = risingFrom shape (count - k) k s ≡ risenOf shape count
 
 abbrev μ-loop : tie.MeasureT-loop
 μ-loop shape count top rungs first s₀ k₀ s k = count - k

@@ -1,6 +1,6 @@
 -- `share::odds_at` meets its contract, by its tests.
 use borrow.Author.Needs.{needs}
-use Rattle.counts.specs.Share.{oddsOf}
+use Rattle.counts.specs.Share.{oddsAtOf}
 use Rattle.counts.proofs.Laws.{odds-above, odds-below}
 use Rattle.counts.proofs.share.odds_at.Statement.{statement}
 use Rattle.counts.proofs.share.odds_at.Tie as tie
@@ -18,7 +18,7 @@ below c =
     odds-below _ _ _ (e .before .if2 .taken) (rw (← e .exp2 .ensures) (t .log1p2 .ensures)) (c .odds-with2 .ensures)
 
 between : tie.Need-returns-3
-unfolding oddsOf
+unfolding oddsAtOf
 between c =
     let p = c .before in
     rw (c .odds-with3 .ensures, p .softplus2 .ensures, p .before .softplus .ensures)

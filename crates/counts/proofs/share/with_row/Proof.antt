@@ -1,11 +1,11 @@
 -- `share::with_row` meets its contract, by what its callees ensure.
 use borrow.Author.Needs.{needs}
-use Rattle.counts.specs.Share.{rowOf, withRow}
+use Rattle.counts.specs.Share.{rowOf, withRowOf}
 use Rattle.counts.proofs.share.with_row.Statement.{statement}
 use Rattle.counts.proofs.share.with_row.Tie as tie
 
 pub with-row-spec : {M : Type 1} → statement M
-unfolding rowOf withRow
+unfolding rowOf withRowOf
 with-row-spec =
     tie.close
     (tie.spec

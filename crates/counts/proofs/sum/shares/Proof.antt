@@ -10,14 +10,14 @@ use Rattle.num.specs.Left.{left-one, left-none}
 use Rattle.planar.specs.declared.Planar.{Planar}
 use Rattle.planar.specs.Planar.{noPlanar}
 use Rattle.exposure.specs.Rows.{countAt, exposureAt}
-use Rattle.counts.specs.Share.{withRow}
+use Rattle.counts.specs.Share.{withRowOf}
 use Rattle.counts.specs.Rows.{rowsFrom}
 use borrow.Author.Needs.{needs}
 use Rattle.counts.proofs.sum.shares.Statement.{statement}
 use Rattle.counts.proofs.sum.shares.Tie as tie
 
 module _ (shape y : Float) (cs : List ℕ) (es : List Float) (n i : ℕ) (v₀ v : Planar) (e : rowsFrom shape y cs es (n - i) i v ≡ rowsFrom shape y cs es n 0 v₀) where
-  turns : (t : Planar) → i < n → t ≡ withRow v shape y (countAt cs i) (exposureAt es i) → rowsFrom shape y cs es (n - (i + 1)) (i + 1) t ≡ rowsFrom shape y cs es n 0 v₀
+  turns : (t : Planar) → i < n → t ≡ withRowOf v shape y (countAt cs i) (exposureAt es i) → rowsFrom shape y cs es (n - (i + 1)) (i + 1) t ≡ rowsFrom shape y cs es n 0 v₀
   unfolding rowsFrom
   turns t h g = rw g (rw (left-one n i h) at e)
 

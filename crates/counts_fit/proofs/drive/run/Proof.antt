@@ -5,9 +5,9 @@ use Rattle.num.specs.Choose.{by-call, by-not-false, by-not-true}
 use borrow.Author.Needs.{needs}
 use Rattle.elementary.specs.Log.{logOf}
 use Rattle.exposure.specs.Rows.{eventsOf}
-use Rattle.stepper.specs.Stands.{spanOf, tell-less}
+use Rattle.stepper.specs.Stands.{remainingOf, tell-less}
 use Rattle.course.specs.Drives.{fits, Left, courseOf, starts, run-ends, run-stops, run-turn}
-use Rattle.counts_fit.specs.Among.{valueAmong, enough, drivenOf}
+use Rattle.counts_fit.specs.Among.{valueAmong, enough, runOf}
 use Rattle.counts_fit.specs.Spent.{Within, within-begun, within-room}
 use Rattle.counts_fit.specs.Valued.{valued, within-next}
 use Rattle.counts_fit.proofs.drive.run.Statement.{statement}
@@ -17,13 +17,13 @@ abbrev Inv-loop : tie.InvT-loop
 Inv-loop counts exposures p s₀ used₀ s used = (used ≤ enough) × Within (p .most .0) (eventsOf counts) s used × Left logOf (valueAmong counts exposures) enough p 0 (courseOf logOf (valueAmong counts exposures) enough p 0 (s₀ .next)) s used
 
 abbrev μ-loop : tie.MeasureT-loop
-μ-loop counts exposures p s₀ used₀ s used = spanOf p s
+μ-loop counts exposures p s₀ used₀ s used = remainingOf p s
 
 loop-holds : tie.Need-loop-holds Inv-loop μ-loop
 loop-holds c = (zero-le, within-begun _ _ _ _ (c .begin .ensures) (c .before .before .before .pre .2), starts _ _ _ _ _ _ _ (c .begin .ensures))
 
 returns : tie.Need-returns Inv-loop μ-loop
-unfolding drivenOf
+unfolding runOf
 returns c =
     let a = c .before .before in
     let l = a .before in
@@ -40,7 +40,7 @@ add-spent c =
     omega arith
 
 returns-2 : tie.Need-returns-2 Inv-loop μ-loop
-unfolding drivenOf
+unfolding runOf
 returns-2 c =
     let r = c .before .before in
     let o = r .before .before in

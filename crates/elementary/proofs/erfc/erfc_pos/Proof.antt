@@ -2,12 +2,12 @@
 use Rattle.num.specs.Numbers.{below-number}
 use borrow.Author.Needs.{needs}
 use Rattle.num.specs.Choose.{choose}
-use Rattle.elementary.specs.Erfc.{erfcPos}
+use Rattle.elementary.specs.Erfc.{erfcPosOf}
 use Rattle.elementary.proofs.erfc.erfc_pos.Statement.{statement}
 use Rattle.elementary.proofs.erfc.erfc_pos.Tie as tie
 
 pub erfc-pos-spec : {M : Type 1} → statement M
-unfolding erfcPos
+unfolding erfcPosOf
 erfc-pos-spec =
     tie.close
     (tie.spec

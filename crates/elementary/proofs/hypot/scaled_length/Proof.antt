@@ -1,11 +1,11 @@
 -- `hypot::scaled_length` meets its contract, by its callee's contract.
 use borrow.Author.Needs.{needs}
-use Rattle.elementary.specs.Hypot.{scaledLength}
+use Rattle.elementary.specs.Hypot.{scaledLengthOf}
 use Rattle.elementary.proofs.hypot.scaled_length.Statement.{statement}
 use Rattle.elementary.proofs.hypot.scaled_length.Tie as tie
 
 pub scaled-length-spec : {M : Type 1} → statement M
-unfolding scaledLength
+unfolding scaledLengthOf
 scaled-length-spec =
     tie.close
     (tie.spec

@@ -1,11 +1,11 @@
 -- `request::up_to` meets its contract, by what its callees ensure.
 use borrow.Author.Needs.{needs}
-use Rattle.exposure.specs.Request.{upTo}
+use Rattle.exposure.specs.Request.{upToOf}
 use Rattle.exposure.proofs.request.up_to.Statement.{statement}
 use Rattle.exposure.proofs.request.up_to.Tie as tie
 
 pub up-to-spec : {M : Type 1} → statement M
-unfolding upTo
+unfolding upToOf
 up-to-spec =
     tie.close
     (tie.spec

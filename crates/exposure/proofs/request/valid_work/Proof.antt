@@ -2,12 +2,12 @@
 use native.Mathlib.Omega.{arith}
 use borrow.Author.Needs.{needs}
 use Rattle.num.specs.Choose.{choose}
-use Rattle.exposure.specs.Request.{validWork}
+use Rattle.exposure.specs.Request.{validWorkOf}
 use Rattle.exposure.proofs.request.valid_work.Statement.{statement}
 use Rattle.exposure.proofs.request.valid_work.Tie as tie
 
 pub valid-work-spec : {M : Type 1} → statement M
-unfolding validWork
+unfolding validWorkOf
 valid-work-spec =
     tie.close
     (tie.spec

@@ -7,33 +7,33 @@ use native.Mathlib.Nat.{sub-zero}
 use lib.ListN.{length}
 use lib.Ieee.{Float}
 use Rattle.num.specs.Left.{left-one, left-none}
-use Rattle.exposure.specs.Rows.{exposureAt, positive, positiveFrom, positives}
+use Rattle.exposure.specs.Rows.{exposureAt, isPositiveOf, positiveFrom, allPositiveOf}
 use borrow.Author.Needs.{needs}
 use Rattle.num.specs.Choose.{choose}
 use Rattle.exposure.proofs.rows.all_positive.Statement.{statement}
 use Rattle.exposure.proofs.rows.all_positive.Tie as tie
 
-module _ (es : List Float) (n i : ℕ) (v : positiveFrom es (n - i) i ≡ positives es) where
-  stops : (t : Bool) → i < n → t ≡ positive (exposureAt es i) → t ≡ false → false ≡ positives es
+module _ (es : List Float) (n i : ℕ) (v : positiveFrom es (n - i) i ≡ allPositiveOf es) where
+  stops : (t : Bool) → i < n → t ≡ isPositiveOf (exposureAt es i) → t ≡ false → false ≡ allPositiveOf es
   unfolding positiveFrom
   stops t h e f = rw (left-one n i h, ← e, f) at v
 
-  turns : (t : Bool) → i < n → t ≡ positive (exposureAt es i) → t ≡ true → positiveFrom es (n - (i + 1)) (i + 1) ≡ positives es
+  turns : (t : Bool) → i < n → t ≡ isPositiveOf (exposureAt es i) → t ≡ true → positiveFrom es (n - (i + 1)) (i + 1) ≡ allPositiveOf es
   unfolding positiveFrom
   turns t h e f = rw (left-one n i h, ← e, f) at v
 
-  ends : n ≤ i → true ≡ positives es
+  ends : n ≤ i → true ≡ allPositiveOf es
   unfolding positiveFrom
   ends h = rw (left-none n i h) at v
 
 abbrev Inv-loop : tie.InvT-loop
-Inv-loop exposures i₀ i-end i = positiveFrom exposures (length exposures - i) i ≡ positives exposures
+Inv-loop exposures i₀ i-end i = positiveFrom exposures (length exposures - i) i ≡ allPositiveOf exposures
 
 abbrev μ-loop : tie.MeasureT-loop
 μ-loop exposures i₀ i-end i = length exposures - i
 
 loop-holds : tie.Need-loop-holds Inv-loop μ-loop
-unfolding positives
+unfolding allPositiveOf
 loop-holds c = rw (sub-zero (length (c .before .args .exposures .now)))
 
 pub all-positive-spec : {M : Type 1} → statement M

@@ -2,12 +2,12 @@
 use borrow.Author.Needs.{needs}
 use borrow.Author.Tests.{eq-eqb, ne-eqb}
 use Rattle.num.specs.Choose.{choose}
-use Rattle.exposure.specs.Rows.{validRows}
+use Rattle.exposure.specs.Rows.{validRowsOf}
 use Rattle.exposure.proofs.rows.valid_rows.Statement.{statement}
 use Rattle.exposure.proofs.rows.valid_rows.Tie as tie
 
 pub valid-rows-spec : {M : Type 1} → statement M
-unfolding validRows
+unfolding validRowsOf
 valid-rows-spec =
     tie.close
     (tie.spec

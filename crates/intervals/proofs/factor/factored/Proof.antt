@@ -3,7 +3,7 @@ use mathlib.Core.Path.{_≡_, refl}
 use Prim.Native.Nat.{_-_}
 use native.Mathlib.Nat.{sub-zero}
 use lib.ListN.{length}
-use Rattle.intervals.specs.Factor.{factorFrom, factorOf}
+use Rattle.intervals.specs.Factor.{factorFrom, factoredOf}
 use Rattle.intervals.proofs.Laws.{factor-stops, factor-turn, factor-done}
 use borrow.Author.Needs.{needs}
 use Rattle.num.specs.Choose.{choose}
@@ -11,13 +11,13 @@ use Rattle.intervals.proofs.factor.factored.Statement.{statement}
 use Rattle.intervals.proofs.factor.factored.Tie as tie
 
 abbrev Inv-loop : tie.InvT-loop
-Inv-loop covariance errors l₀ i₀ i-end l i = factorFrom covariance errors (length errors - i) i l ≡ factorOf covariance errors
+Inv-loop covariance errors l₀ i₀ i-end l i = factorFrom covariance errors (length errors - i) i l ≡ factoredOf covariance errors
 
 abbrev μ-loop : tie.MeasureT-loop
 μ-loop covariance errors l₀ i₀ i-end l i = length errors - i
 
 loop-holds : tie.Need-loop-holds Inv-loop μ-loop
-unfolding factorOf
+unfolding factoredOf
 loop-holds c = rw (sub-zero (length (c .before .before .args .errors .now)))
 
 pub factored-spec : {M : Type 1} → statement M

@@ -4,7 +4,7 @@ use mathlib.Core.List.{_++_}
 use Prim.Native.Nat.{_-_, _%_}
 use borrow.Author.Needs.{needs}
 use lib.ListN.{length, take, getD}
-use Rattle.tables.specs.Exp.{expRow}
+use Rattle.tables.specs.Exp.{expRowOf}
 use Rattle.lanes.specs.Lanes.{values}
 use Rattle.lanes.specs.ExpParts.{expRowsFor}
 use Rattle.lanes.specs.Filled.{turns, ends}
@@ -12,7 +12,7 @@ use Rattle.lanes.proofs.exp.rows.Statement.{statement}
 use Rattle.lanes.proofs.exp.rows.Tie as tie
 
 abbrev Inv-loop : tie.InvT-loop
-Inv-loop m v₀ i₀ v i = (length v ≡ 16) × (take i v ++ values (λ i. expRow (getD m i 0 % 64)) (16 - i) i ≡ expRowsFor m)
+Inv-loop m v₀ i₀ v i = (length v ≡ 16) × (take i v ++ values (λ i. expRowOf (getD m i 0 % 64)) (16 - i) i ≡ expRowsFor m)
 
 abbrev μ-loop : tie.MeasureT-loop
 μ-loop m v₀ i₀ v i = 16 - i

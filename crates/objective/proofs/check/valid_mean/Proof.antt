@@ -1,12 +1,12 @@
 -- `check::valid_mean` meets its contract, by its tests.
-use Rattle.objective.specs.Litters.{validMean}
+use Rattle.objective.specs.Point.{validMeanOf}
 use borrow.Author.Needs.{needs}
 use Rattle.num.specs.Choose.{choose}
 use Rattle.objective.proofs.check.valid_mean.Statement.{statement}
 use Rattle.objective.proofs.check.valid_mean.Tie as tie
 
 pub valid-mean-spec : {M : Type 1} → statement M
-unfolding validMean
+unfolding validMeanOf
 valid-mean-spec =
     tie.close
     (tie.spec

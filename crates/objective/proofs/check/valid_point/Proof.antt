@@ -1,11 +1,11 @@
 -- `check::valid_point` meets its contract, by what its callees ensure.
-use Rattle.objective.specs.Litters.{validPoint}
+use Rattle.objective.specs.Point.{validPointOf}
 use borrow.Author.Needs.{needs}
 use Rattle.objective.proofs.check.valid_point.Statement.{statement}
 use Rattle.objective.proofs.check.valid_point.Tie as tie
 
 pub valid-point-spec : {M : Type 1} → statement M
-unfolding validPoint
+unfolding validPointOf
 valid-point-spec =
     tie.close
     (tie.spec

@@ -19,7 +19,7 @@ abbrev μ-loop : tie.MeasureT-loop
 
 loop-holds : tie.Need-loop-holds Inv-loop μ-loop
 unfolding summedOf
-loop-holds c = (zero-le, refl, rw (sub-zero (length (c .before .args .litters .now) / 3)))
+loop-holds c = (zero-le, refl, rw (c .nothing .ensures, sub-zero (length (c .before .before .args .litters .now) / 3)))
 
 loop-again : tie.Need-loop-again Inv-loop μ-loop
 loop-again c =
@@ -37,7 +37,7 @@ add-used c =
     let l = c .before .before .before in
     let below = l .loop .inv .0 in
     let answer = c .before .litter .ensures in
-    let h : l .loop .used + c .before .litter .result .used .0 ≤ l .before .before .args .limit = search row-fits in
+    let h : l .loop .used + c .before .litter .result .used .0 ≤ l .before .before .before .args .limit = search row-fits in
     omega arith
 
 pub summed-spec : {M : Type 1} → statement M
@@ -46,6 +46,7 @@ summed-spec =
     (tie.spec
     Inv-loop
     μ-loop
+    (λ c κs. search needs)
     loop-holds
     (λ c. omega arith)
     (λ c. search needs)

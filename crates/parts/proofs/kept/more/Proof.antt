@@ -3,12 +3,12 @@ use mathlib.Core.Path.{_≡_, ap}
 use Prim.Native.Nat.{ℕ, _+_, _-_, _≤_}
 use native.Mathlib.Omega.{arith}
 use borrow.Author.Needs.{needs}
-use Rattle.parts.specs.Kept.{roomFor}
+use Rattle.parts.specs.Kept.{roomForOf}
 use Rattle.parts.proofs.kept.more.Statement.{statement}
 use Rattle.parts.proofs.kept.more.Tie as tie
 
-room : (k n len : ℕ) → k ≡ roomFor n len → (k ≤ 8193 - n) × (k ≤ len)
-unfolding roomFor
+room : (k n len : ℕ) → k ≡ roomForOf n len → (k ≤ 8193 - n) × (k ≤ len)
+unfolding roomForOf
 room k n len e = (omega arith, omega arith)
 
 copied-requires : tie.Need-copied-requires

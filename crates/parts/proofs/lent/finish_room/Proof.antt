@@ -1,11 +1,11 @@
 -- `lent::finish_room` meets its contract.
 use borrow.Author.Needs.{needs}
-use Rattle.parts.specs.Lent.{finishRoom}
+use Rattle.parts.specs.Lent.{finishRoomOf}
 use Rattle.parts.proofs.lent.finish_room.Statement.{statement}
 use Rattle.parts.proofs.lent.finish_room.Tie as tie
 
 pub finish-room-spec : {M : Type 1} → statement M
-unfolding finishRoom
+unfolding finishRoomOf
 finish-room-spec =
     tie.close
     (tie.spec

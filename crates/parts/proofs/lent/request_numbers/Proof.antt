@@ -1,11 +1,11 @@
 -- `lent::request_numbers` meets its contract.
 use borrow.Author.Needs.{needs}
-use Rattle.parts.specs.Lent.{requestNumbers}
+use Rattle.parts.specs.Lent.{requestNumbersOf}
 use Rattle.parts.proofs.lent.request_numbers.Statement.{statement}
 use Rattle.parts.proofs.lent.request_numbers.Tie as tie
 
 pub request-numbers-spec : {M : Type 1} → statement M
-unfolding requestNumbers
+unfolding requestNumbersOf
 request-numbers-spec =
     tie.close
     (tie.spec

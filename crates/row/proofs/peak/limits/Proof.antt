@@ -12,6 +12,7 @@ limits-spec =
     (λ c κs. search needs)
     (λ c κs. search needs)
     (λ c κs. search needs)
+    (λ c κs. search needs)
     (λ c. search (limits-goes, choose) fits 8000 depth 8)
     (λ c κs. search needs)
     (λ c. search (limits-goes, choose) fits 8000 depth 8))

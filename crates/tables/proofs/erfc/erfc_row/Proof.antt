@@ -1,13 +1,13 @@
 -- `tables::erfc_row` meets its contract: each arm by its key, the last by `past`.
 -- Written by tools/tables.py.
 use mathlib.Core.Path.{refl}
-use Rattle.tables.specs.Erfc.{erfcRow, erfcRows}
+use Rattle.tables.specs.Erfc.{erfcRowOf, erfcRows}
 use Rattle.tables.proofs.Rows.{at, past}
 use Rattle.tables.proofs.erfc.erfc_row.Statement.{statement}
 use Rattle.tables.proofs.erfc.erfc_row.Tie as tie
 
 pub erfc-row-spec : {M : Type 1} → statement M
-unfolding erfcRow erfcRows
+unfolding erfcRowOf erfcRows
 erfc-row-spec =
     tie.close
     (tie.spec

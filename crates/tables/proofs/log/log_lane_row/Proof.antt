@@ -1,13 +1,13 @@
 -- `tables::log_lane_row` meets its contract: each arm by its key, the last by `past`.
 -- Written by tools/tables.py.
 use mathlib.Core.Path.{refl}
-use Rattle.tables.specs.Log.{logRow, logRows}
+use Rattle.tables.specs.Log.{logRowOf, logRows}
 use Rattle.tables.proofs.Rows.{at, past}
 use Rattle.tables.proofs.log.log_lane_row.Statement.{statement}
 use Rattle.tables.proofs.log.log_lane_row.Tie as tie
 
 pub log-lane-row-spec : {M : Type 1} → statement M
-unfolding logRow logRows
+unfolding logRowOf logRows
 log-lane-row-spec =
     tie.close
     (tie.spec

@@ -1,0 +1,24 @@
+-- What a search over the posterior answers where it comes to a place on either side of the mode.
+use Prim.Native.Nat.{ℕ}
+use lib.Ieee.{Float}
+use Rattle.num.specs.F64.{zero·}
+use Rattle.work.specs.declared.Ending.{Ending}
+use Rattle.posterior.specs.declared.integrand.Posterior.{Posterior}
+use Rattle.posterior.specs.declared.range.Range.{Range}
+use Rattle.posterior.specs.Integrand.{counted}
+
+pub record Ends : Type 0 where
+  pub left : Float
+  pub right : Float
+
+abbrev pub noEnds : Ends
+noEnds = record { left = zero·; right = zero· }
+
+abbrev pub ofEnds : Ending → Posterior → Ends → Range
+ofEnds e p s = record { end = e; p = p; left = s .left; right = s .right }
+
+abbrev pub toRange : Posterior → Ending → ℕ → Ends → Range
+toRange p e n s = ofEnds e (counted p n) s
+
+abbrev pub nothingOf : Ending → Posterior → Range
+nothingOf e p = ofEnds e p noEnds

@@ -1,0 +1,15 @@
+pub mod Digits
+pub mod Template
+pub mod Field
+pub mod Decimal
+pub mod Read
+pub mod Says
+pub mod DigitLaws
+pub mod Spells
+pub mod SpellingLaws
+pub mod Sound
+pub mod BothWays
+pub mod Said
+pub mod Departure
+pub mod Feeds
+pub mod Examples
