@@ -86,7 +86,7 @@ impl Rows {
 fn beside(number: usize, most: u32, rounds: usize) {
     let rows = Rows::drawn(number, most);
     let request = rows.request();
-    let (plain, bound): (Side, Side) = (counts_plain::fit_gamma_poisson, counts_ours::fit_gamma_poisson);
+    let (plain, bound): (Side, Side) = (given_plain::fit_gamma_poisson, given_ours::fit_gamma_poisson);
     let (end, numbers, counts) = rows.fit();
     let (Ok(a), Ok(b)) = (bound(&request), plain(&request)) else { fail("the Rust refuses") };
     let theirs = [a.parameters["shape"].value, a.parameters["rate"].value, a.negative_log_likelihood, a.projected_gradient_norm];

@@ -1,12 +1,13 @@
 -- What an archive's shape is, in words of its own, and that the test says exactly that.
-use mathlib.Core.Path.{_≡_, refl}
-use mathlib.Core.Bool.{Bool, true, false, _&&_}
+use mathlib.Core.Path.{_≡_}
+use mathlib.Core.Bool.{true, _&&_}
 use mathlib.Core.List.{List}
 use Prim.Native.Nat.{ℕ, _+_, _*_, _/_, _≤_}
 use native.Mathlib.Omega.{arith}
 use borrow.Author.Tests.{leb-true, le-leb, eqb-true, eq-eqb}
 use lib.Dec.{leb, eqb}
 use lib.ListN.{length}
+use Rattle.num.specs.Both.{and-left, and-right}
 use Rattle.archive.specs.Layout.{sizeOf, countIn, totalsByteIn, litterByteIn, trailerHoldsOf, shapedOf}
 
 pub record Shaped (b : List ℕ) : Type 0 where
@@ -14,17 +15,6 @@ pub record Shaped (b : List ℕ) : Type 0 where
   pub long : length b ≡ 12 * countIn b + 32 * (countIn b / 64) + 12
   pub totals : totalsByteIn b ≡ 12 * countIn b
   pub litters : litterByteIn b ≡ 0
-
-pub and-left : (a b : Bool) → (a && b) ≡ true → a ≡ true
-and-left true b e = refl
-and-left false b e = e
-
-pub and-right : (a b : Bool) → (a && b) ≡ true → b ≡ true
-and-right true b e = e
-and-right false b e = cc
-
-pub and-both : (a b : Bool) → a ≡ true → b ≡ true → (a && b) ≡ true
-and-both a b e f = rw (e, f)
 
 module _ (b : List ℕ) where
   pub shape-holds : shapedOf b ≡ true → Shaped b

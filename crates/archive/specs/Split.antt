@@ -1,12 +1,10 @@
 -- A count splits at a position: the litters before it, and those from it on as the summary counts them.
-use mathlib.Core.Path.{_≡_, refl, sym, ap, _∙_}
+use mathlib.Core.Path.{_≡_, refl, _∙_}
 use mathlib.Core.List.{List, [], _∷_}
 use Prim.Native.Nat.{ℕ, zero, suc, _+_, _*_, _/_}
 use native.Mathlib.Nat.{add-zero, add-assoc}
-use native.Mathlib.Numerals.{add-one}
 use native.Mathlib.Omega.{arith}
 use lib.ListN.{length, getD}
-use Rattle.summary.specs.declared.GroupCounts.{GroupCounts}
 use Rattle.summary.specs.Summary.{plusOf, litterCountsOf, countsFrom, countsOf}
 use Rattle.archive.specs.declared.counts.Counts.{Counts}
 use Rattle.archive.specs.Layout.{groupIn, successesIn, totalIn}

@@ -4,7 +4,7 @@ pub mod counts;
 ghost use mathlib.Core.Path.{_≡_};
 ghost use Prim.Native.Nat.{_+_, _-_, _*_, _≤_, _<_};
 ghost use lib.ListN.{length};
-ghost use Rattle.archive.specs.Layout.{numberOf, lineOf, wordAt, validOf, sizeOf, trailerHoldsOf, shapedOf};
+ghost use Rattle.archive.specs.Layout.{numberOf, wordAt, validOf, sizeOf, trailerHoldsOf, shapedOf};
 
 // How an answer about an archive ends. Form carries its line, which is 0 for an archive.
 pub enum Outcome {

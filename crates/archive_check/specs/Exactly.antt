@@ -1,16 +1,17 @@
 -- The full check says yes exactly for an archive that is right.
 use mathlib.Core.Path.{_≡_, refl, sym, ap, _∙_}
-use mathlib.Core.Bool.{Bool, true, false, _&&_, cond}
+use mathlib.Core.Bool.{true, _&&_}
 use mathlib.Core.List.{List}
 use Prim.Native.Nat.{ℕ, zero, suc, _+_, _-_, _*_, _/_, _%_, _<_, _≤_}
 use native.Mathlib.Omega.{arith}
 use borrow.Author.Tests.{eqb-true, eq-eqb, ltb-true, ltb-false}
 use borrow.Table.Steps.{cases}
 use lib.Dec.{eqb, ltb}
+use Rattle.num.specs.Both.{and-left, and-right, and-both}
 use Rattle.summary.specs.declared.GroupCounts.{GroupCounts}
 use Rattle.archive.specs.declared.counts.Counts.{Counts}
 use Rattle.archive.specs.Layout.{validOf, countIn, shapedOf}
-use Rattle.archive.specs.Shaped.{Shaped, shape-holds, shape-is, and-left, and-right, and-both}
+use Rattle.archive.specs.Shaped.{shape-holds, shape-is}
 use Rattle.archive.specs.Counts.{totalsIn, countsTo}
 use Rattle.archive.specs.Right.{Right}
 use Rattle.archive_check.specs.Check.{sameGroupOf, sameOf, totalsHoldOf, holdsAt, holdsFrom, checkOf}

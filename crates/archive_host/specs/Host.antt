@@ -1,15 +1,14 @@
 -- What a host's calls on an archive answer, and what they leave in its buffers.
 use mathlib.Core.Bool.{cond}
-use mathlib.Core.List.{List, [], _∷_, _++_}
+use mathlib.Core.List.{List}
 use Prim.Native.Nat.{ℕ}
 use lib.Dec.{leb}
 use lib.ListN.{length}
-use Rattle.summary.specs.declared.GroupCounts.{GroupCounts}
+use Rattle.summary.specs.Summary.{listedOf}
 use Rattle.store.specs.Stored.{stored}
-use Rattle.archive.specs.declared.counts.Counts.{Counts}
 use Rattle.archive.specs.Layout.{numberOf, sizeOf}
 use Rattle.archive_range.specs.declared.Range.{Range}
-use Rattle.archive_range.specs.Range.{rangeOf}
+use Rattle.archive_range.specs.Range.{betweenOf}
 use Rattle.archive_check.specs.Check.{checkOf}
 use Rattle.archive_write.specs.Archive.{writeOf}
 
@@ -21,19 +20,12 @@ pub record Given : Type 0 where
 abbrev pub given : ℕ → List ℕ → Given
 given value out = record { value = value; out = out }
 
-abbrev groupList : GroupCounts → List ℕ
-groupList g = g .litters ∷ g .successes ∷ g .trials ∷ g .extreme ∷ []
-
--- of group 0, then of group 1
-abbrev pub listedOf : Counts → List ℕ
-listedOf c = groupList (c .first) ++ groupList (c .second)
-
 unfoldable pub putRangeOf : Range → List ℕ → Given
-putRangeOf r counts = given (numberOf (r .end)) (stored counts (listedOf (r .counts)))
+putRangeOf r counts = given (numberOf (r .end)) (stored counts (listedOf (r .counts .first) (r .counts .second)))
 
 -- eight places, or nothing is written
 unfoldable pub rangeGiven : List ℕ → ℕ → ℕ → List ℕ → Given
-rangeGiven b from to counts = cond (leb 8 (length counts)) (putRangeOf (rangeOf b from to) counts) (given 1 counts)
+rangeGiven b from to counts = cond (leb 8 (length counts)) (putRangeOf (betweenOf b from to) counts) (given 1 counts)
 
 unfoldable pub writeGiven : List ℕ → List ℕ → Given
 writeGiven ls out = given (numberOf (writeOf ls out .end)) (writeOf ls out .out)

@@ -1,10 +1,9 @@
 // The calls on an archive as a host makes them: numbers for outcomes, and counts put into a lent buffer.
-use archive::counts::Counts;
 use archive_range::Range;
 ghost use mathlib.Core.Path.{_≡_};
 ghost use Prim.Native.Nat.{_≤_};
 ghost use lib.ListN.{length};
-ghost use Rattle.archive_host.specs.Host.{given, listedOf, putRangeOf, rangeGiven, writeGiven, checkGiven, sizeGiven};
+ghost use Rattle.archive_host.specs.Host.{given, putRangeOf, rangeGiven, writeGiven, checkGiven, sizeGiven};
 
 // The bytes of an archive of n litters; 0 for more than 4,096.
 pub fn size_in(n: usize) -> usize
@@ -30,28 +29,12 @@ pub fn write_in(litters: &[u32], out: &mut [u8]) -> u64
     archive::number(end)
 }
 
-fn listed(c: Counts) -> [u64; 8]
-    ensures { λ r. ⌜ r ≡ listedOf c ⌝ }
-{
-    let a = c.first;
-    let b = c.second;
-    [
-        a.litters,
-        a.successes,
-        a.trials,
-        a.extreme,
-        b.litters,
-        b.successes,
-        b.trials,
-        b.extreme,
-    ]
-}
-
 fn put_range(r: Range, counts: &mut [u64]) -> u64
     requires { ⌜ 8 ≤ length (now counts) ⌝ }
     ensures { λ v. ⌜ given v (now (counts .exit)) ≡ putRangeOf r (now (counts .entry)) ⌝ }
 {
-    let c = listed(r.counts);
+    let k = r.counts;
+    let c = summary::listed(k.first, k.second);
     let end = r.end;
     store::counts(&c, counts);
     archive::number(end)

@@ -1,23 +1,24 @@
 -- The laws of the loops over what a running summary reads, and of the tests before a difference.
 use mathlib.Core.Path.{_≡_, refl, sym, ap, _∙_}
-use mathlib.Core.Bool.{Bool, true, false, _&&_, cond}
-use mathlib.Core.List.{List, [], _∷_, _++_}
+use mathlib.Core.Bool.{Bool, true, false, _&&_}
+use mathlib.Core.List.{List, _++_}
 use Prim.Native.Nat.{ℕ, zero, suc, _+_, _-_, _*_, _/_, _%_, _<_, _≤_}
 use native.Mathlib.Nat.{zero-add}
 use native.Mathlib.Omega.{arith}
 use borrow.Author.Tests.{leb-true}
 use lib.Dec.{leb}
 use lib.ListN.{length}
+use Rattle.num.specs.Both.{and-left, and-right}
 use Rattle.num.specs.Left.{left-one, left-none}
 use Rattle.summary.specs.declared.GroupCounts.{GroupCounts}
 use Rattle.archive.specs.declared.counts.Counts.{Counts}
 use Rattle.archive.specs.declared.Outcome.the-variants.{Answered, InvalidInput, Form}
 use Rattle.archive.specs.Layout.{validOf, countIn, shapedOf}
-use Rattle.archive.specs.Shaped.{Shaped, shape-holds, and-left, and-right}
+use Rattle.archive.specs.Shaped.{Shaped, shape-holds}
 use Rattle.archive.specs.Counts.{none, bothOf, litterIn, totalsOf, totalsIn}
-use Rattle.archive_range.specs.Reads.{total, litter, littersFrom, lastTotal, readsOf, isValid, summed, validReadsOf, runningOf}
+use Rattle.archive_range.specs.Reads.{littersFrom, lastTotal, readsOf, summed, validReadsOf, runningOf}
 use Rattle.archive_range.specs.declared.Range.{Range}
-use Rattle.archive_range.specs.Range.{fitsOf, groupWithinOf, withinOf, groupLessOf, lessOf, refusedOf, differenceOf, judgedOf, rangeOf, Under}
+use Rattle.archive_range.specs.Range.{fitsOf, groupWithinOf, withinOf, groupLessOf, lessOf, refusedOf, differenceOf, judgedOf, betweenOf, Under}
 
 -- ---- the litters since the last totals
 
@@ -126,17 +127,17 @@ pub in-bounds : (b : List ℕ) (from to n : ℕ) (s : Bool) → n ≡ countIn b 
 in-bounds b from to n s e f k = rw (← e) (leb-true to n (and-right (leb from to) (leb to n) (sym f ∙ k)))
 
 module _ (b : List ℕ) (from to : ℕ) (r : Range) where
-  pub no-shape : (t : Bool) → t ≡ shapedOf b → t ≡ false → r ≡ refusedOf (Form 0) → r ≡ rangeOf b from to
-  unfolding rangeOf
+  pub no-shape : (t : Bool) → t ≡ shapedOf b → t ≡ false → r ≡ refusedOf (Form 0) → r ≡ betweenOf b from to
+  unfolding betweenOf
   no-shape t e h u = rw (← e, h) u
 
   module _ (t : Bool) (e : t ≡ shapedOf b) (h : t ≡ true) (n : ℕ) (en : n ≡ countIn b) (s : Bool) (f : s ≡ (leb from to && leb to n)) where
-    pub no-order : s ≡ false → r ≡ refusedOf InvalidInput → r ≡ rangeOf b from to
-    unfolding rangeOf
+    pub no-order : s ≡ false → r ≡ refusedOf InvalidInput → r ≡ betweenOf b from to
+    unfolding betweenOf
     no-order k u = rw (← e, h, ← en, ← f, k) u
 
-    pub all-in-order : s ≡ true → r ≡ judgedOf b from to → r ≡ rangeOf b from to
-    unfolding rangeOf
+    pub all-in-order : s ≡ true → r ≡ judgedOf b from to → r ≡ betweenOf b from to
+    unfolding betweenOf
     all-in-order k u = rw (← e, h, ← en, ← f, k) u
 
 -- ---- tests of tests

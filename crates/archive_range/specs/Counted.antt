@@ -2,25 +2,26 @@
 use mathlib.Core.Path.{_≡_, refl, sym, ap, _∙_}
 use mathlib.Core.Bool.{true}
 use mathlib.Core.List.{List, [], _∷_, _++_}
-use Prim.Native.Nat.{ℕ, zero, suc, _+_, _-_, _*_, _/_, _%_, _<_, _≤_}
+use Prim.Native.Nat.{ℕ, zero, suc, _+_, _-_, _*_, _/_, _%_, _≤_}
 use native.Mathlib.Nat.{add-zero, zero-add}
 use native.Mathlib.Numerals.{add-one}
 use native.Mathlib.Omega.{arith}
 use borrow.Author.Tests.{le-leb}
+use Rattle.num.specs.Both.{and-both}
 use Rattle.summary.specs.declared.GroupCounts.{GroupCounts}
 use Rattle.summary.specs.Most.{Most}
 use Rattle.summary.specs.Summary.{plusOf, countsFrom, countsOf}
 use Rattle.archive.specs.declared.Outcome.the-variants.{Answered}
 use Rattle.archive.specs.declared.counts.Counts.{Counts}
 use Rattle.archive.specs.Layout.{validOf, countIn}
-use Rattle.archive.specs.Shaped.{shape-is, and-both}
+use Rattle.archive.specs.Shaped.{shape-is}
 use Rattle.archive.specs.Counts.{none, bothOf, countsTo, numbersFrom, BothMost}
 use Rattle.archive.specs.Right.{Right}
 use Rattle.archive.specs.Most.{counts-most}
 use Rattle.archive.specs.Split.{countedOf, split}
 use Rattle.archive_range.specs.declared.Range.{Range}
-use Rattle.archive_range.specs.Reads.{Read, total, litter, littersFrom, lastTotal, readsOf, readIn, isValid, summed, validReadsOf, runningOf}
-use Rattle.archive_range.specs.Range.{groupFitsOf, fitsOf, groupWithinOf, withinOf, groupLessOf, lessOf, differenceOf, inOrder, judgedOf, rangeOf}
+use Rattle.archive_range.specs.Reads.{Read, littersFrom, lastTotal, readsOf, readIn, summed, validReadsOf, runningOf}
+use Rattle.archive_range.specs.Range.{groupFitsOf, fitsOf, groupWithinOf, withinOf, lessOf, differenceOf, judgedOf, betweenOf}
 
 -- ---- the running summary is the count of all litters before the position
 
@@ -123,8 +124,8 @@ abbrev pub countedRange : List ℕ → ℕ → ℕ → Range
 countedRange b from to = answered (countedOf (numbersFrom b (to - from) from))
 
 module _ (b : List ℕ) (r : Right b) where
-  pub range-counted : (from to : ℕ) → from ≤ to → to ≤ countIn b → rangeOf b from to ≡ countedRange b from to
-  unfolding rangeOf judgedOf
+  pub range-counted : (from to : ℕ) → from ≤ to → to ≤ countIn b → betweenOf b from to ≡ countedRange b from to
+  unfolding betweenOf judgedOf
   range-counted from to h l =
       let few = r .shape .few in
       let low : from ≤ countIn b = omega arith in
@@ -132,6 +133,6 @@ module _ (b : List ℕ) (r : Right b) where
       let d = differs (countsTo b from) (countsTo b to) (countedOf (numbersFrom b (to - from) from)) (ap (countsTo b) (sym e) ∙ split b (to - from) from) (fits (countsTo b from) (1000 * from) (omega arith) (counts-most b (countIn b) (r .litters) from low)) (fits (countsTo b to) (1000 * to) (omega arith) (counts-most b (countIn b) (r .litters) to l)) in
       rw (shape-is b (r .shape), le-leb from to h, le-leb to (countIn b) l, valid-reads b r from low, valid-reads b r to l, running-is b r from low, running-is b r to l) d
 
-  pub empty-range : (p : ℕ) → p ≤ countIn b → rangeOf b p p ≡ answered none
+  pub empty-range : (p : ℕ) → p ≤ countIn b → betweenOf b p p ≡ answered none
   unfolding numbersFrom countedOf countsOf countsFrom
   empty-range p l = let e : p - p ≡ 0 = omega arith in rw e at (range-counted p p (omega arith) l)

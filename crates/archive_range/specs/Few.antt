@@ -1,11 +1,9 @@
 -- A running summary reads at most one of the totals and 63 litters, whatever the archive; and two archives that agree in what is read have the
 -- same running summary.
 use mathlib.Core.Path.{_≡_, refl}
-use mathlib.Core.Bool.{Bool, true, _&&_}
 use mathlib.Core.List.{List, [], _∷_, _++_}
-use Prim.Native.Nat.{ℕ, zero, suc, _+_, _*_, _/_, _%_, _≤_, _<_, zero-le}
+use Prim.Native.Nat.{ℕ, zero, suc, _+_, _*_, _/_, _%_, _≤_}
 use native.Mathlib.Omega.{arith}
-use native.Mathlib.Nat.{mod-lt}
 use Rattle.archive.specs.declared.counts.Counts.{Counts}
 use Rattle.archive.specs.Counts.{none, bothOf}
 use Rattle.archive_range.specs.Reads.{Read, total, litter, littersFrom, lastTotal, readsOf, readIn, isValid, summed, validReadsOf, runningOf}

@@ -52,8 +52,8 @@ inOrder from to n = leb from to && leb to n
 unfoldable pub judgedOf : List ℕ → ℕ → ℕ → Range
 judgedOf b from to = cond (validReadsOf b (readsOf from) && validReadsOf b (readsOf to)) (differenceOf (runningOf b from) (runningOf b to)) (refusedOf InvalidInput)
 
-unfoldable pub rangeOf : List ℕ → ℕ → ℕ → Range
-rangeOf b from to = cond (shapedOf b) (cond (inOrder from to (countIn b)) (judgedOf b from to) (refusedOf InvalidInput)) (refusedOf (Form 0))
+unfoldable pub betweenOf : List ℕ → ℕ → ℕ → Range
+betweenOf b from to = cond (shapedOf b) (cond (inOrder from to (countIn b)) (judgedOf b from to) (refusedOf InvalidInput)) (refusedOf (Form 0))
 
 -- two groups' counts whose differences are not negative
 pub record Under (a b : GroupCounts) : Type 0 where

@@ -10,7 +10,7 @@ ghost use Prim.Native.Nat.{_≤_};
 ghost use Rattle.archive.specs.Layout.{countIn};
 ghost use Rattle.archive.specs.Shaped.{Shaped};
 ghost use Rattle.archive_range.specs.Reads.{readsOf, validReadsOf, runningOf};
-ghost use Rattle.archive_range.specs.Range.{refusedOf, differenceOf, judgedOf, rangeOf};
+ghost use Rattle.archive_range.specs.Range.{refusedOf, differenceOf, judgedOf, betweenOf};
 
 pub struct Range {
     pub end: Outcome,
@@ -54,7 +54,7 @@ fn judged(b: &[u8], from: usize, to: usize) -> Range
 
 // From one position up to but not including another.
 pub fn between(b: &[u8], from: usize, to: usize) -> Range
-    ensures { λ r. ⌜ r ≡ rangeOf (now (b .entry)) from to ⌝ }
+    ensures { λ r. ⌜ r ≡ betweenOf (now (b .entry)) from to ⌝ }
 {
     if !archive::shaped(b) {
         return refused(Outcome::Form(0));

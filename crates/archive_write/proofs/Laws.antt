@@ -1,7 +1,7 @@
 -- The laws of the writer's tests, stores and loops.
 use mathlib.Core.Path.{_≡_, refl, sym, ap, _∙_}
 use mathlib.Core.Bool.{Bool, true, false, _&&_}
-use mathlib.Core.List.{List, [], _∷_, _++_}
+use mathlib.Core.List.{List, _++_}
 use Prim.Native.Nat.{ℕ, suc, _+_, _*_, _/_, _%_, _<_, _≤_}
 use native.Mathlib.Numerals.{add-one}
 use native.Mathlib.Omega.{arith}
@@ -9,14 +9,14 @@ use borrow.Author.Tests.{le-leb, lt-leb, leb-true, eq-eqb, ne-eqb}
 use lib.Dec.{leb, eqb}
 use lib.ListN.{length, set}
 use lib.Seq.{sets, length-sets}
+use Rattle.num.specs.Both.{and-left, and-right}
 use Rattle.litters.specs.Litters.{countOf, successesAt, totalAt, groupAt}
-use Rattle.litters.specs.Valid.{validFrom}
+use Rattle.litters.specs.Valid.{eachValidOf}
 use Rattle.summary.specs.declared.GroupCounts.{GroupCounts}
 use Rattle.store.specs.Stored.{stored}
 use Rattle.archive.specs.declared.Outcome.the-variants.{Answered, InvalidInput}
 use Rattle.archive.specs.declared.counts.Counts.{Counts}
 use Rattle.archive.specs.Layout.{sizeOf}
-use Rattle.archive.specs.Shaped.{and-left, and-right}
 use Rattle.archive.specs.Counts.{none, bothOf, oneOf, BothBelow}
 use Rattle.archive.specs.Most.{raised}
 use Rattle.archive_write.specs.Archive.{wordBytes, litterBytes, groupBytes, countsBytes, trailerBytes, littersTo, countedTo, totalsTo, archiveOf, isWritableOf, written, writeOf}
@@ -38,21 +38,21 @@ module _ (ls : List ℕ) (room : ℕ) where
     unfolding isWritableOf
     no-room m l e k = rw (eq-eqb (length ls % 3) 0 h, le-leb (length ls / 3) 4096 l, ← e, lt-leb m room k)
 
-    pub all-there : (m : ℕ) (r : Bool) → length ls / 3 ≤ 4096 → m ≡ sizeOf (length ls / 3) → m ≤ room → r ≡ validFrom ls (countOf ls) 0 → r ≡ isWritableOf ls room
+    pub all-there : (m : ℕ) (r : Bool) → length ls / 3 ≤ 4096 → m ≡ sizeOf (length ls / 3) → m ≤ room → r ≡ eachValidOf ls → r ≡ isWritableOf ls room
     unfolding isWritableOf
     all-there m r l e k f = rw (eq-eqb (length ls % 3) 0 h, le-leb (length ls / 3) 4096 l, ← e, le-leb m room k) f
 
 -- what is writable has few litters and room
 module _ (ls : List ℕ) (room : ℕ) (t : Bool) (e : t ≡ isWritableOf ls room) (f : t ≡ true) where
-  rest : (leb (countOf ls) 4096 && (leb (sizeOf (countOf ls)) room && validFrom ls (countOf ls) 0)) ≡ true
+  rest : (leb (countOf ls) 4096 && (leb (sizeOf (countOf ls)) room && eachValidOf ls)) ≡ true
   unfolding isWritableOf
-  rest = and-right (eqb (length ls % 3) 0) (leb (countOf ls) 4096 && (leb (sizeOf (countOf ls)) room && validFrom ls (countOf ls) 0)) (sym e ∙ f)
+  rest = and-right (eqb (length ls % 3) 0) (leb (countOf ls) 4096 && (leb (sizeOf (countOf ls)) room && eachValidOf ls)) (sym e ∙ f)
 
   pub few : length ls / 3 ≤ 4096
-  few = leb-true (countOf ls) 4096 (and-left (leb (countOf ls) 4096) (leb (sizeOf (countOf ls)) room && validFrom ls (countOf ls) 0) rest)
+  few = leb-true (countOf ls) 4096 (and-left (leb (countOf ls) 4096) (leb (sizeOf (countOf ls)) room && eachValidOf ls) rest)
 
   size-fits : sizeOf (countOf ls) ≤ room
-  size-fits = leb-true (sizeOf (countOf ls)) room (and-left (leb (sizeOf (countOf ls)) room) (validFrom ls (countOf ls) 0) (and-right (leb (countOf ls) 4096) (leb (sizeOf (countOf ls)) room && validFrom ls (countOf ls) 0) rest))
+  size-fits = leb-true (sizeOf (countOf ls)) room (and-left (leb (sizeOf (countOf ls)) room) (eachValidOf ls) (and-right (leb (countOf ls) 4096) (leb (sizeOf (countOf ls)) room && eachValidOf ls) rest))
 
   pub has-room : 12 * (length ls / 3) + 32 * (length ls / 3 / 64) + 12 ≤ room
   unfolding sizeOf

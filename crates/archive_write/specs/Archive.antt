@@ -5,7 +5,7 @@ use Prim.Native.Nat.{ℕ, zero, suc, _+_, _*_, _/_, _%_}
 use lib.Dec.{leb, eqb}
 use lib.ListN.{length}
 use Rattle.litters.specs.Litters.{countOf, successesAt, totalAt, groupAt}
-use Rattle.litters.specs.Valid.{validFrom}
+use Rattle.litters.specs.Valid.{eachValidOf}
 use Rattle.summary.specs.declared.GroupCounts.{GroupCounts}
 use Rattle.store.specs.Stored.{stored}
 use Rattle.archive.specs.declared.Outcome.{Outcome}
@@ -57,7 +57,7 @@ archiveOf ls = littersTo ls (countOf ls) ++ (totalsTo ls (countOf ls / 64) ++ tr
 
 -- no number over, at most 4,096 litters, room for the archive, every litter valid
 unfoldable pub isWritableOf : List ℕ → ℕ → Bool
-isWritableOf ls room = eqb (length ls % 3) 0 && (leb (countOf ls) 4096 && (leb (sizeOf (countOf ls)) room && validFrom ls (countOf ls) 0))
+isWritableOf ls room = eqb (length ls % 3) 0 && (leb (countOf ls) 4096 && (leb (sizeOf (countOf ls)) room && eachValidOf ls))
 
 -- a call's outcome, and what its buffer holds after it
 pub record Written : Type 0 where

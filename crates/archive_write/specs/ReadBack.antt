@@ -1,28 +1,29 @@
 -- What the writer makes is right, and it is read back as its litters.
 use mathlib.Core.Path.{_≡_, refl, sym, ap, _∙_}
-use mathlib.Core.Bool.{Bool, true, false, _&&_, cond}
-use mathlib.Core.List.{List, [], _∷_, _++_}
+use mathlib.Core.Bool.{true, _&&_}
+use mathlib.Core.List.{List, _++_}
 use Prim.Native.Nat.{ℕ, zero, suc, _+_, _-_, _*_, _/_, _%_, _<_, _≤_}
 use native.Mathlib.Nat.{zero-add, div-add-mod, mod-eq-of-lt}
 use native.Mathlib.Omega.{arith}
 use borrow.Author.Tests.{leb-true, eqb-true, ltb-true, ltb-false}
 use borrow.Table.Steps.{cases}
 use lib.Dec.{leb, eqb, ltb}
-use lib.ListN.{length, getD, drop, drop-of-length-le, List·getD-append}
+use lib.ListN.{length, drop, drop-of-length-le, List·getD-append}
 use lib.Seq.{getD-append-add, drop-cons}
+use Rattle.num.specs.Both.{and-left, and-right}
 use Rattle.litters.specs.Litters.{countOf, successesAt, totalAt, groupAt}
-use Rattle.litters.specs.Valid.{validLitterOf, validFrom}
+use Rattle.litters.specs.Valid.{validLitterOf, eachValidOf}
 use Rattle.litters.specs.Checks.{bounds, each-valid}
 use Rattle.summary.specs.declared.GroupCounts.{GroupCounts}
 use Rattle.summary.specs.Most.{Most}
 use Rattle.archive.specs.declared.counts.Counts.{Counts}
 use Rattle.archive.specs.Layout.{wordAt, groupIn, successesIn, totalIn, validOf, sizeOf, countIn, totalsByteIn, litterByteIn}
-use Rattle.archive.specs.Shaped.{Shaped, and-left, and-right}
-use Rattle.archive.specs.Counts.{none, bothOf, oneOf, litterIn, groupTotalsOf, totalsOf, totalsIn, countsTo, numbersFrom, BothMost}
+use Rattle.archive.specs.Shaped.{Shaped}
+use Rattle.archive.specs.Counts.{oneOf, litterIn, groupTotalsOf, totalsOf, totalsIn, countsTo, numbersFrom, BothMost}
 use Rattle.archive.specs.Right.{Right}
 use Rattle.archive.specs.Most.{counts-most}
 use Rattle.archive_write.specs.Archive.{wordBytes, litterBytes, groupBytes, countsBytes, trailerBytes, littersTo, countedTo, totalsTo, archiveOf, isWritableOf}
-use Rattle.archive_write.specs.Puts.{word-long, group-long, litter-long, litters-long, totals-long, trailer-long, counts-long, archive-long}
+use Rattle.archive_write.specs.Puts.{word-long, group-long, litters-long, totals-long, archive-long}
 
 -- ---- a word in one of two lists
 
@@ -162,22 +163,22 @@ small s t g h = let b = bounds s t g h in record { successes = omega arith; tota
 -- ---- the archive
 
 module _ (ls : List ℕ) (room : ℕ) (w : isWritableOf ls room ≡ true) where
-  rest : (leb (countOf ls) 4096 && (leb (sizeOf (countOf ls)) room && validFrom ls (countOf ls) 0)) ≡ true
+  rest : (leb (countOf ls) 4096 && (leb (sizeOf (countOf ls)) room && eachValidOf ls)) ≡ true
   unfolding isWritableOf
-  rest = and-right (eqb (length ls % 3) 0) (leb (countOf ls) 4096 && (leb (sizeOf (countOf ls)) room && validFrom ls (countOf ls) 0)) w
+  rest = and-right (eqb (length ls % 3) 0) (leb (countOf ls) 4096 && (leb (sizeOf (countOf ls)) room && eachValidOf ls)) w
 
   whole : length ls % 3 ≡ 0
   unfolding isWritableOf
-  whole = eqb-true (length ls % 3) 0 (and-left (eqb (length ls % 3) 0) (leb (countOf ls) 4096 && (leb (sizeOf (countOf ls)) room && validFrom ls (countOf ls) 0)) w)
+  whole = eqb-true (length ls % 3) 0 (and-left (eqb (length ls % 3) 0) (leb (countOf ls) 4096 && (leb (sizeOf (countOf ls)) room && eachValidOf ls)) w)
 
   few : countOf ls ≤ 4096
-  few = leb-true (countOf ls) 4096 (and-left (leb (countOf ls) 4096) (leb (sizeOf (countOf ls)) room && validFrom ls (countOf ls) 0) rest)
+  few = leb-true (countOf ls) 4096 (and-left (leb (countOf ls) 4096) (leb (sizeOf (countOf ls)) room && eachValidOf ls) rest)
 
-  valid : validFrom ls (countOf ls) 0 ≡ true
-  valid = and-right (leb (sizeOf (countOf ls)) room) (validFrom ls (countOf ls) 0) (and-right (leb (countOf ls) 4096) (leb (sizeOf (countOf ls)) room && validFrom ls (countOf ls) 0) rest)
+  valid : eachValidOf ls ≡ true
+  valid = and-right (leb (sizeOf (countOf ls)) room) (eachValidOf ls) (and-right (leb (countOf ls) 4096) (leb (sizeOf (countOf ls)) room && eachValidOf ls) rest)
 
   at-valid : (i : ℕ) → i < countOf ls → validLitterOf (successesAt ls i) (totalAt ls i) (groupAt ls i) ≡ true
-  at-valid i h = each-valid ls (countOf ls) 0 i valid (omega arith) (omega arith)
+  at-valid i h = each-valid ls i valid (omega arith)
 
   litter-word : (i d : ℕ) → i < countOf ls → d + 4 ≤ 12 → wordAt (archiveOf ls) (12 * i + d) ≡ wordAt (litterBytes (successesAt ls i) (totalAt ls i) (groupAt ls i)) d
   unfolding archiveOf

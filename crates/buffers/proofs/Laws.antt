@@ -6,12 +6,13 @@ use Prim.Native.Nat.{ℕ}
 use lib.Dec.{leb}
 use lib.ListN.{length}
 use lib.Ieee.{Float}
+use Rattle.summary.specs.Summary.{listedOf}
 use Rattle.work.specs.Ended.{numberOf}
 use Rattle.objective.specs.declared.sum.Objective.{Objective}
 use Rattle.summary.specs.declared.Summary.{Summary}
 use Rattle.fit.specs.declared.report.Fit.{Fit}
 use Rattle.store.specs.Stored.{stored}
-use Rattle.buffers.specs.Buffers.{firstNumbersOf, allNumbersOf, fitNumbersOf, fitCountsOf, putFitOf, objectiveNumbersOf, objectiveCountsOf, putObjectiveOf, summaryCountsOf, putSummaryOf}
+use Rattle.buffers.specs.Buffers.{firstNumbersOf, allNumbersOf, fitNumbersOf, fitCountsOf, putFitOf, objectiveNumbersOf, objectiveCountsOf, putObjectiveOf, putSummaryOf}
 use Rattle.store.specs.Given.{given}
 
 -- by the room for a fit's numbers
@@ -32,6 +33,6 @@ pub put-objective-is : (o : Objective) (l m v : List Float) (c d w : List ℕ) (
 unfolding putObjectiveOf
 put-objective-is o l m v c d w r a b p q e = rw (p, q, e, a, b)
 
-pub put-summary-is : (s : Summary) (c d w : List ℕ) (r : ℕ) → w ≡ summaryCountsOf s → d ≡ stored c w → r ≡ numberOf (s .end) → given r [] d ≡ putSummaryOf s c
+pub put-summary-is : (s : Summary) (c d w : List ℕ) (r : ℕ) → w ≡ listedOf (s .first) (s .second) → d ≡ stored c w → r ≡ numberOf (s .end) → given r [] d ≡ putSummaryOf s c
 unfolding putSummaryOf
 put-summary-is s c d w r b q e = rw (q, e, b)

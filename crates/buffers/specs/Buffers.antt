@@ -5,10 +5,10 @@ use Prim.Native.Nat.{ℕ, _+_}
 use lib.Dec.{eqb, leb}
 use lib.ListN.{length, getD}
 use lib.Ieee.{Float, nan}
+use Rattle.summary.specs.Summary.{listedOf}
 use Rattle.work.specs.Ended.{numberOf, reasonOf}
 use Rattle.descent.specs.Status.{numberOf as Status·numberOf}
 use Rattle.objective.specs.declared.sum.Objective.{Objective}
-use Rattle.summary.specs.declared.GroupCounts.{GroupCounts}
 use Rattle.summary.specs.declared.Summary.{Summary}
 use Rattle.fit.specs.declared.report.Fit.{Fit}
 use Rattle.store.specs.Stored.{stored}
@@ -81,15 +81,8 @@ objectiveGiven o point numbers counts =
 
 -- ---- a summary, which has no numbers
 
-abbrev groupCounts : GroupCounts → List ℕ
-groupCounts g = g .litters ∷ g .successes ∷ g .trials ∷ g .extreme ∷ []
-
--- of group 0, then of group 1
-abbrev pub summaryCountsOf : Summary → List ℕ
-summaryCountsOf s = groupCounts (s .first) ++ groupCounts (s .second)
-
 unfoldable pub putSummaryOf : Summary → List ℕ → Given
-putSummaryOf s counts = given (numberOf (s .end)) [] (stored counts (summaryCountsOf s))
+putSummaryOf s counts = given (numberOf (s .end)) [] (stored counts (listedOf (s .first) (s .second)))
 
 unfoldable pub summaryGiven : Summary → List ℕ → Given
 summaryGiven s counts = cond (leb 8 (length counts)) (putSummaryOf s counts) (unwritten [] counts)

@@ -3,12 +3,11 @@ use fit::Fit;
 use objective::Objective;
 use summary::Summary;
 ghost use mathlib.Core.Path.{_≡_};
-ghost use mathlib.Core.Bool.{cond};
 ghost use mathlib.Core.List.{[]};
 ghost use Prim.Native.Nat.{_≤_};
 ghost use lib.ListN.{length};
 ghost use Rattle.store.specs.Stored.{stored};
-ghost use Rattle.buffers.specs.Buffers.{fitRoomOf, firstNumbersOf, allNumbersOf, fitNumbersOf, fitCountsOf, putFitOf, objectiveRoomOf, objectiveNumbersOf, objectiveCountsOf, putObjectiveOf, summaryCountsOf, putSummaryOf};
+ghost use Rattle.buffers.specs.Buffers.{fitRoomOf, firstNumbersOf, allNumbersOf, fitNumbersOf, fitCountsOf, putFitOf, objectiveRoomOf, objectiveNumbersOf, objectiveCountsOf, putObjectiveOf, putSummaryOf};
 ghost use Rattle.store.specs.Given.{given};
 
 pub fn fit_room(bounds: usize, numbers: usize, counts: usize) -> bool
@@ -79,12 +78,6 @@ fn fit_numbers(f: Fit, numbers: &mut [f64])
     store::numbers(&first, numbers);
 }
 
-fn mark(on: bool) -> u64
-    ensures { λ r. ⌜ r ≡ cond on 1 0 ⌝ }
-{
-    if on { 1 } else { 0 }
-}
-
 fn fit_counts(f: Fit) -> [u64; 10]
     ensures { λ r. ⌜ r ≡ fitCountsOf f ⌝ }
 {
@@ -98,10 +91,10 @@ fn fit_counts(f: Fit) -> [u64; 10]
         f.quadrature.0,
         f.litters,
         work::reason(end),
-        mark(on[0]),
-        mark(on[1]),
-        mark(on[2]),
-        mark(on[3]),
+        store::mark(on[0]),
+        store::mark(on[1]),
+        store::mark(on[2]),
+        store::mark(on[3]),
     ]
 }
 
@@ -172,28 +165,11 @@ pub fn put_objective(o: Objective, numbers: &mut [f64], counts: &mut [u64]) -> u
     work::number(end)
 }
 
-fn summary_counts(s: Summary) -> [u64; 8]
-    ensures { λ r. ⌜ r ≡ summaryCountsOf s ⌝ }
-{
-    let a = s.first;
-    let b = s.second;
-    [
-        a.litters,
-        a.successes,
-        a.trials,
-        a.extreme,
-        b.litters,
-        b.successes,
-        b.trials,
-        b.extreme,
-    ]
-}
-
 pub fn put_summary(s: Summary, counts: &mut [u64]) -> u64
     requires { ⌜ 8 ≤ length (now counts) ⌝ }
     ensures { λ r. ⌜ given r [] (now (counts .exit)) ≡ putSummaryOf s (now (counts .entry)) ⌝ }
 {
-    let c = summary_counts(s);
+    let c = summary::listed(s.first, s.second);
     let end = s.end;
     store::counts(&c, counts);
     work::number(end)

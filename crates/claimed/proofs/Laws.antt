@@ -6,7 +6,7 @@ use Prim.Native.Nat.{ℕ, suc, _+_, _≤_, _<_}
 use native.Mathlib.Nat.{zero-add}
 use native.Mathlib.Omega.{arith}
 use borrow.Author.Tests.{lt-ltb, le-ltb, not-true, not-false}
-use lib.Dec.{eqb, lit<, lit≤}
+use lib.Dec.{eqb, lit<}
 use lib.ListN.{length, take, drop, getD, drop-of-length-le}
 use lib.Seq.{drop-cons, getD-take}
 use Rattle.template.specs.Template.{holes}
@@ -16,9 +16,8 @@ use Rattle.template.specs.Says.{valuesOf, saidOf}
 use Rattle.template.specs.Said.{said}
 use Rattle.read.specs.declared.Asking.{Asking}
 use Rattle.read.specs.Request.{Asked, asked, form, isEmpty, renderLitters, readRequest}
-use Rattle.read.specs.BothWays.{SpellsRequest, read-exactly, lastLine, parts-long, litters-some, nothing-left, something-left}
+use Rattle.read.specs.BothWays.{read-exactly, lastLine, parts-long, litters-some, nothing-left, something-left}
 use Rattle.read.specs.Rows.{fillRequest, askingOf}
-use Rattle.claimed.specs.declared.Claiming.{Claiming}
 use Rattle.claimed.specs.declared.Lines.{Lines}
 use Rattle.claimed.specs.Claimed.{claim, claimAtOf, readClaim, readBehind, readClaimed}
 use Rattle.claimed.specs.Claiming.{five, behindOf, departedOf, heldOf, joinedOf, claimingOf, fillClaimed}

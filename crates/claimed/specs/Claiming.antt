@@ -7,6 +7,7 @@ use native.Mathlib.Omega.{arith}
 use borrow.Table.Steps.{cases}
 use lib.Dec.{ltb}
 use lib.ListN.{length, take, drop, getD, replicate}
+use Rattle.read.specs.Long.{length-fill}
 use Rattle.template.specs.Read.{Reading, done, departsAt, read}
 use Rattle.read.specs.declared.Asking.{Asking}
 use Rattle.read.specs.Request.{Asked, asked, form, isEmpty, readRequest}
@@ -44,6 +45,10 @@ claimingOf (claims vs ls us) = heldOf (length ls) vs (five us)
 
 unfoldable pub fillClaimed : List ℕ → List ℕ → List ℕ
 fillClaimed b text = cond (ltb 8192 (length text)) b (fillRequest b (take (claimAtOf 10 text) text))
+
+pub length-claimed : (b text : List ℕ) → length (fillClaimed b text) ≡ length b
+unfolding fillClaimed
+length-claimed b text = cases (ltb 8192 (length text)) (λ t. rw t) (λ t. rw t (length-fill b (take (claimAtOf 10 text) text)))
 
 -- ---- where a text has the form, the buffer holds its litters
 

@@ -1,7 +1,6 @@
 -- Example A with a claim behind it, and texts beside it, as antt computes them from the definitions.
 use mathlib.Core.Path.{_≡_, refl}
-use mathlib.Core.List.{List, [], _∷_, _++_}
-use Prim.Native.Nat.{ℕ}
+use mathlib.Core.List.{[], _∷_, _++_}
 use Prim.Native.String.{String}
 use lib.Count.{trailingZeros}
 use lib.Ieee.{span, climb, size, odd, units, round, toBits}

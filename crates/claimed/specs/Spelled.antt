@@ -1,9 +1,9 @@
 -- A text of at most 8,192 bytes is read as a request with a claim exactly if it spells the request and, behind it, the claim: no line of a request begins with a `c`.
 use mathlib.Core.Path.{_≡_, refl, sym, ap, _∙_}
 use mathlib.Core.Logic.{_↔_}
-use mathlib.Core.Bool.{Bool, true, false, cond, not, _&&_, _||_, and-eq-true-iff}
+use mathlib.Core.Bool.{Bool, true, false, not, _&&_, _||_, and-eq-true-iff}
 use mathlib.Core.List.{List, [], _∷_, _++_, append-nil}
-use Prim.Native.Nat.{ℕ, suc, _+_, _≤_, _<_}
+use Prim.Native.Nat.{ℕ, _+_, _≤_, _<_}
 use native.Mathlib.Nat.{zero-add, add-zero}
 use native.Mathlib.Omega.{arith}
 use borrow.Author.Tests.{ltb-false, le-ltb, not-true}
@@ -11,17 +11,17 @@ use borrow.Table.Steps.{cases}
 use lib.Dec.{T, ltb, eqb}
 use lib.ListN.{length, take, drop, length-append, take-append-drop}
 use lib.Seq.{take-at, drop-append-seam}
-use Rattle.template.specs.Template.{first, isCount, isBits, isHoleOf, render}
+use Rattle.template.specs.Template.{isHoleOf, render}
 use Rattle.template.specs.Field.{readByte}
 use Rattle.template.specs.Read.{Reading, done, departsAt, feeds, readField, read}
-use Rattle.template.specs.Sound.{sound, Holds}
+use Rattle.template.specs.Sound.{sound}
 use Rattle.template.specs.Digits.{decimal}
-use Rattle.template.specs.Spells.{Spelling, Spells, ended, a-count, a-number, a-byte}
+use Rattle.template.specs.Spells.{Spells, ended, a-count, a-number, a-byte}
 use Rattle.template.specs.BothWays.{not-done, spelled-read, read-spelled, render-spells}
-use Rattle.template.specs.Feeds.{feeds-append, spells-feeds}
+use Rattle.template.specs.Feeds.{feeds-append, spells-feeds, number-none}
 use Rattle.read.specs.Request.{head, litter, closing, Asked, asked, form, isEmpty, renderLitters, readRequest}
-use Rattle.read.specs.BothWays.{EachHolds, lastLine, SpellsRequest, last-holds, parts-long, litters-some, head-some, request-read-back, read-is-spelled, is-empty}
-use Rattle.claimed.specs.Claimed.{Claims, claims, departed, claim, claimAtOf, readClaim, readBehind, readClaimed}
+use Rattle.read.specs.BothWays.{EachHolds, lastLine, SpellsRequest, last-holds, parts-long, litters-some, request-read-back, read-is-spelled, is-empty}
+use Rattle.claimed.specs.Claimed.{claims, claim, claimAtOf, readClaim, readBehind, readClaimed}
 use Rattle.claimed.specs.Claiming.{not-claims}
 
 -- ---- lists without a line that begins with a `c`, behind the byte `last`; and the byte that stands before what follows
@@ -80,10 +80,6 @@ count-feeds : (n : ℕ) → n < 4294967296 → feeds (decimal n) ≡ 0
 unfolding feeds
 count-feeds n b = let e = spells-feeds (a-count n b refl ended) in let g = feeds-append (decimal n) [] in omega arith
 
-number-feeds : (v : ℕ) (q : List ℕ) → Spelling v q → feeds q ≡ 0
-unfolding feeds
-number-feeds v q b = let e = spells-feeds (a-number v q b refl ended) in let g = feeds-append q [] in omega arith
-
 hole-follows : (fresh : Bool) → not (fresh && true) ≡ true → fresh ≡ false
 hole-follows true h = sym h
 hole-follows false h = refl
@@ -96,7 +92,7 @@ spells-tidy (a-count {f = f} {s = s} n b p k) last fresh e h =
     rw p (both last (decimal n) s false (leaves false f) g (spells-tidy k (lastOf last (decimal n)) false (g .begins) (t .1)))
 spells-tidy (a-number {f = f} {s = s} v q b p k) last fresh e h =
     let t = and-eq-true-iff (not (fresh && true)) (tidy false f) .0 h in
-    let g = quiet last q (number-feeds v q b) (e ∙ hole-follows fresh (t .0)) in
+    let g = quiet last q (number-none v q b) (e ∙ hole-follows fresh (t .0)) in
     rw p (both last q s false (leaves false f) g (spells-tidy k (lastOf last q) false (g .begins) (t .1)))
 spells-tidy (a-byte {f = f} {s = s} c p q w k) last fresh e h =
     let t = and-eq-true-iff (not (fresh && (isHoleOf c || eqb c 99))) (tidy (eqb c 10) f) .0 h in

@@ -2,7 +2,6 @@
 use mathlib.Core.Path.{_≡_, ap, _∙_}
 use Prim.Native.Nat.{ℕ, _-_, _≤_}
 use native.Mathlib.Omega.{arith}
-use lib.Ieee.{Float}
 use Rattle.num.specs.F64.{_⊖_}
 use Rattle.num.specs.Helpers.{maxOf, minOf}
 use Rattle.factorial.specs.Factorial.{logFactorialOf}

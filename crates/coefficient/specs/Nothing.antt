@@ -1,5 +1,5 @@
 -- The coefficient is exactly +0 where there is nothing to choose: no successes or no failures among up to 1000 pups.
-use mathlib.Core.Path.{_≡_, refl, sym, subst, _∙_}
+use mathlib.Core.Path.{_≡_, refl, sym, _∙_}
 use mathlib.Core.Bool.{true, false}
 use mathlib.Core.Logic.{_⊎_, inl, inr}
 use Prim.Native.Nat.{ℕ, zero, suc, _-_, _*_, _≤_, _<_}
@@ -8,13 +8,12 @@ use native.Mathlib.Omega.{arith}
 use borrow.Author.Tests.{lt-ltb, le-ltb}
 use lib.IntN.{ℤ}
 use lib.Dec.{T, ltb→lt, lit<}
-use lib.Ieee.{Float, nan, inf, fin, binary64, up, down, round, sum, add, sub, neg, lt, eq, ne, ofBits}
+use lib.Ieee.{Float, nan, inf, fin, binary64, up, down, round, sum, add, sub, neg, lt, eq, ofBits}
 use lib.Ieee.Fits.{up-pos, down-pos}
 use lib.Ieee.Scale.{round-same}
 use lib.Ieee.Positive.{positive}
 use Rattle.num.specs.F64.{_⊖_, zero·}
 use Rattle.num.specs.Helpers.{maxOf, minOf}
-use Rattle.factorial.specs.Factorial.{logFactorialOf}
 use Rattle.factorial.specs.Computed.{at-0, at-1}
 use Rattle.factorial.specs.Above.{log-factorial-above}
 use Rattle.coefficient.specs.Coefficient.{coefficientOf}

@@ -2,18 +2,15 @@
 use mathlib.Core.Path.{_≡_, refl, sym, ap, _∙_}
 use mathlib.Core.Bool.{Bool, true, false}
 use mathlib.Core.Logic.{inl, inr}
-use Prim.Native.Nat.{ℕ, _+_, _*_, _/_, _^_, _≤_, _<_}
-use native.Mathlib.Nat.{mul-right-comm, mul-pos, zero-mul, eq-zero-or-pos}
+use Prim.Native.Nat.{ℕ, _+_, _*_, _≤_, _<_}
+use native.Mathlib.Nat.{mul-pos, zero-mul, eq-zero-or-pos}
 use native.Mathlib.Omega.{arith}
 use borrow.Author.Tests.{ltb-true, ltb-false, le-ltb, eq-eqb}
 use borrow.Table.Steps.{cases}
 use lib.IntN.{ℤ, pos}
-use lib.Dec.{T, ltb}
-use lib.Ieee.{Float, nan, inf, fin, binary64, up, down, low, add, neg, lt, eq, ne, fits, toBits, ofBits}
+use lib.Dec.{T}
+use lib.Ieee.{Float, nan, inf, fin, binary64, up, down, add, neg, lt, eq, ne, fits, ofBits}
 use lib.Ieee.Fits.{down-pos, neg-fits}
-use lib.Ieee.Nearest.{div-same}
-use lib.Ieee.Bits.{ofBits-toBits}
-use Rattle.num.specs.F64.{zero·}
 use Rattle.num.specs.Helpers.{maxOf, minOf}
 use Rattle.order.specs.Zeros.{one-number}
 

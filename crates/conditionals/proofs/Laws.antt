@@ -1,5 +1,5 @@
 -- The laws by which the stages give the conditional at each of sixteen places.
-use mathlib.Core.Path.{_≡_, refl, _∙_}
+use mathlib.Core.Path.{_≡_}
 use mathlib.Core.List.{List}
 use Prim.Native.Nat.{ℕ, _-_, _<_}
 use lib.ListN.{getD}

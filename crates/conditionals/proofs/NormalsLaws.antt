@@ -1,11 +1,11 @@
 -- The laws of the normal distribution at sixteen places.
 use mathlib.Core.Path.{_≡_, refl, _∙_}
-use mathlib.Core.Bool.{true, false, cond}
+use mathlib.Core.Bool.{false}
 use mathlib.Core.List.{List}
 use Prim.Native.Nat.{ℕ, _<_}
 use lib.ListN.{getD}
-use lib.Ieee.{Float, nan, binary64, neg, lt}
-use Rattle.num.specs.F64.{_⊖_, _⊗_, _⊘_, half·, eight·}
+use lib.Ieee.{Float, nan, binary64, neg}
+use Rattle.num.specs.F64.{_⊖_, _⊗_, _⊘_, half·}
 use Rattle.order.specs.Quotients.{neg-div}
 use Rattle.elementary.specs.Exp.{expOf}
 use Rattle.elementary.specs.Log.{logOf}
@@ -18,7 +18,7 @@ use Rattle.normal.specs.Twins.{byCdfOf}
 use Rattle.conditionals.specs.declared.normals.Ratios.{Ratios}
 use Rattle.conditionals.specs.declared.normals.Pairs.{Pairs}
 use Rattle.conditionals.specs.Normals.{acrossOf, cdfOf, cdfsOf, gapsOf, normalAt, ratiosOf, normalsOf}
-use Rattle.conditionals.specs.Tails.{fractionsOf, beyondOf, tailAtOf, tailsAt, tailsOf}
+use Rattle.conditionals.specs.Tails.{fractionsOf, beyondOf, tailsAt, tailsOf}
 use Rattle.conditionals.proofs.TailsLaws.{none-beyond}
 
 pub gap : (r x l : Float) → r ≡ logPhiOf x → r ⊖ l ≡ logPhiOf x ⊖ l

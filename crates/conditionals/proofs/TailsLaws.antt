@@ -1,22 +1,22 @@
 -- The laws of the far tail at sixteen places.
 use mathlib.Core.Path.{_≡_, refl, sym}
-use mathlib.Core.Bool.{Bool, true, false, false≢true, _||_}
+use mathlib.Core.Bool.{Bool, true, false, _||_}
 use mathlib.Core.List.{List}
 use Prim.Native.Nat.{ℕ, zero, suc, _+_, _-_, _≤_, _<_}
 use native.Mathlib.Nat.{add-zero, zero-add, not-suc-le-zero, le-of-suc-le-suc}
 use native.Mathlib.Omega.{arith}
 use lib.ListN.{length, getD}
 use lib.Ieee.{Float, nan, neg, lt}
-use Rattle.num.specs.F64.{_⊕_, _⊖_, _⊘_, whole, eight·}
+use Rattle.num.specs.Both.{or-left, or-right}
+use Rattle.num.specs.F64.{_⊕_, _⊘_, whole, eight·}
 use Rattle.num.specs.Left.{left-one, left-none}
-use Rattle.elementary.specs.Log.{logOf}
-use Rattle.lanes.specs.Lanes.{values, nth}
+use Rattle.lanes.specs.Lanes.{values}
 use Rattle.lanes.specs.Filled.{at-place, same-values, own-values}
 use Rattle.normal.specs.declared.mills.LogMills.{LogMills}
-use Rattle.normal.specs.Normal.{logPhiOf, fractionFrom, fraction-step, fractionOf}
+use Rattle.normal.specs.Normal.{fractionFrom, fraction-step}
 use Rattle.conditionals.specs.declared.normals.Ratios.{Ratios}
 use Rattle.conditionals.specs.Normals.{acrossOf}
-use Rattle.conditionals.specs.Tails.{deeperOf, fractionsOf, beyondFrom, beyondOf, tailAtOf, tailsAt, tailsOf}
+use Rattle.conditionals.specs.Tails.{deeperOf, fractionsOf, beyondFrom, beyondOf, tailsAt, tailsOf}
 
 -- ---- the fractions
 module _ (t f : List Float) (k : ℕ) where
@@ -53,14 +53,6 @@ module _ (x : List Float) (any : Bool) (i : ℕ) (v : (any || beyondFrom x (16 -
   pub beyond-end : 16 ≤ i → any ≡ beyondOf x
   unfolding beyondFrom
   beyond-end l = rw (left-none 16 i l, or-false) at v
-
-or-left : (a b : Bool) → (a || b) ≡ false → a ≡ false
-or-left true b e = e
-or-left false b e = refl
-
-or-right : (a b : Bool) → (a || b) ≡ false → b ≡ false
-or-right true b e = absurd (false≢true (sym e))
-or-right false b e = e
 
 none-from : (x : List Float) (n i : ℕ) → beyondFrom x n i ≡ false → (j : ℕ) → j < n → lt (getD x (i + j) nan) (neg eight·) ≡ false
 unfolding beyondFrom

@@ -7,6 +7,7 @@ use borrow.Author.Tests.{not-true, not-false}
 use lib.ListN.{length}
 use borrow.Table.Steps.{cases}
 use lib.Ieee.{Float, neg, lt, le}
+use Rattle.num.specs.Both.{and-right}
 use Rattle.num.specs.F64.{_⊕_, zero·}
 use Rattle.order.specs.Numbers.{le-left, le-right}
 use Rattle.order.specs.Order.{lt-le, le-not-lt, not-lt}
@@ -16,7 +17,7 @@ use Rattle.elementary.specs.Exp.{expOf}
 use Rattle.elementary.specs.Log1p.{log1pOf}
 use Rattle.exposure.specs.Rows.{isPositiveOf, eventsOf, validRowsOf}
 use Rattle.exposure.specs.Request.{validShapeOf}
-use Rattle.exposure.specs.Passed.{right, rows-few, rows-paired}
+use Rattle.exposure.specs.Passed.{rows-few, rows-paired}
 use Rattle.work.specs.declared.Ending.the-variants.{Answered}
 use Rattle.planar.specs.declared.Planar.{Planar}
 use Rattle.counts.specs.declared.share.Odds.{Odds}
@@ -72,7 +73,7 @@ module _ (shape rate : Float) (cs : List ℕ) (es : List Float) (a b p s t : Boo
   passed h = sym admits-is ∙ not-false t h
 
   pub fits : not t ≡ false → (length cs ≤ 4096) × (length cs ≤ length es)
-  fits h = let v = right (validShapeOf shape && isPositiveOf rate) (validRowsOf cs es) (passed h) in (rows-few cs es v, rows-paired cs es v)
+  fits h = let v = and-right (validShapeOf shape && isPositiveOf rate) (validRowsOf cs es) (passed h) in (rows-few cs es v, rows-paired cs es v)
 
   pub gives : (x y : Float) (w : Value) (o : Objective) → not t ≡ false → x ≡ logOf shape → y ≡ logOf rate → w ≡ evaluatedOf x y cs es → o ≡ toldOf w → o ≡ objectiveOf shape rate cs es
   gives x y w o h ex ey ew eo = rw (objective-admitted shape rate cs es (passed h), eo, ew, ex, ey)

@@ -9,6 +9,7 @@ use lib.ListN.{length}
 use lib.Ieee.{Float, binary64, fits, isNan}
 use lib.Ieee.Fits.{add-fits}
 use lib.Ieee.Bits.{ofBits-fits}
+use Rattle.num.specs.Both.{and-left, and-right}
 use Rattle.num.specs.F64.{_⊖_, _⊗_}
 use Rattle.num.specs.Helpers.{isFiniteOf}
 use Rattle.order.specs.Numbers.{finite-number}
@@ -20,7 +21,6 @@ use Rattle.work.specs.Given.{Always, holds, refuses, tested, passed, anything}
 use Rattle.planar.specs.declared.Planar.{Planar}
 use Rattle.planar.specs.Planar.{noPlanar}
 use Rattle.exposure.specs.Rows.{countAt, exposureAt}
-use Rattle.exposure.specs.Passed.{left, right}
 use Rattle.counts.specs.declared.share.Rising.{Rising}
 use Rattle.counts.specs.Share.{noRising, rise, oddsAtOf, rowOf}
 use Rattle.counts.specs.Rows.{finiteOf, rows, evaluate}
@@ -40,15 +40,15 @@ pub record Known (v : Planar) : Type 0 where
 module _ (v : Planar) (h : finiteOf v ≡ true) where
   pub nll-finite : isFiniteOf (v .nll) ≡ true
   unfolding finiteOf
-  nll-finite = left (isFiniteOf (v .nll)) _ h
+  nll-finite = and-left (isFiniteOf (v .nll)) _ h
 
   pub x-finite : isFiniteOf (v .x) ≡ true
   unfolding finiteOf
-  x-finite = left (isFiniteOf (v .x)) _ (right (isFiniteOf (v .nll)) _ h)
+  x-finite = and-left (isFiniteOf (v .x)) _ (and-right (isFiniteOf (v .nll)) _ h)
 
   pub y-finite : isFiniteOf (v .y) ≡ true
   unfolding finiteOf
-  y-finite = left (isFiniteOf (v .y)) _ (right (isFiniteOf (v .x)) _ (right (isFiniteOf (v .nll)) _ h))
+  y-finite = and-left (isFiniteOf (v .y)) _ (and-right (isFiniteOf (v .x)) _ (and-right (isFiniteOf (v .nll)) _ h))
 
 module _ (shape log-rate : Float) (cs : List ℕ) (es : List Float) where
   rows-known : (n i : ℕ) (v : Planar) → Written v → Always Known (rows shape log-rate cs es n i v)

@@ -7,6 +7,7 @@ use Prim.Native.Nat.{ℕ, _≤_, zero-le}
 use native.Mathlib.Omega.{arith}
 use lib.ListN.{length}
 use lib.Ieee.{Float}
+use Rattle.work.specs.Impossible.{impossible}
 use Rattle.elementary.specs.Log.{logOf}
 use Rattle.work.specs.declared.Ending.{Ending}
 use Rattle.work.specs.declared.Ending.the-variants.{Answered, InvalidInput, Domain, WorkBudget}
@@ -38,9 +39,6 @@ pub record Answers (P : Report → Type 0) (f : Fit) : Type 0 where
   pub report : Report
   pub has : P report
   pub is : f ≡ toFit Answered count report
-
-impossible : {Z : Type 0} → _≡_ {A = ℕ} 0 1 → Z
-impossible z = absurd (omega arith)
 
 module _ (r : Request) (cs : List ℕ) (es : List Float) where
   -- what every answer of the definition has, an answered fit has

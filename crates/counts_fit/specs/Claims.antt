@@ -3,11 +3,11 @@ use mathlib.Core.Path.{_≡_, refl, ap, sym, _∙_}
 use mathlib.Core.Bool.{true}
 use mathlib.Core.List.{List, []}
 use Prim.Native.Nat.{ℕ}
-use native.Mathlib.Omega.{arith}
 use lib.Dec.{T}
 use lib.ListN.{length}
 use lib.Ieee.{Float, binary64, le, fits}
 use Rattle.num.specs.Helpers.{isFiniteOf}
+use Rattle.work.specs.Impossible.{impossible}
 use Rattle.order.specs.Numbers.{finite-number}
 use Rattle.elementary.specs.Log.{logOf}
 use Rattle.work.specs.declared.Ending.the-variants.{Answered}
@@ -61,9 +61,6 @@ pub record Ends (r : Request) (cs : List ℕ) (f : Fit) (e : Ended (Descended Sp
   pub used : ℕ
   pub ended : e ≡ done d
   pub is : f ≡ toFit Answered used (reportOf r (length cs) d)
-
-impossible : {Z : Type 0} → _≡_ {A = ℕ} 0 1 → Z
-impossible z = absurd (omega arith)
 
 module _ (r : Request) (cs : List ℕ) (es : List Float) where
   by-ending : (f : Fit) (e : Ended (Descended Spot Planar)) (u : ℕ) → f ≡ told toFit noReport (after e u (λ d n. metered logOf enough n (ret (reportOf r (length cs) d)))) → f .end ≡ Answered → Ends r cs f e

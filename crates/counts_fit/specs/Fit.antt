@@ -16,7 +16,7 @@ use Rattle.planar.specs.declared.Planar.{Planar}
 use Rattle.descent.specs.declared.Status.{Status}
 use Rattle.descent.specs.declared.Status.the-variants.{NoStatus}
 use Rattle.descent.specs.Descent.{Descended, descent}
-use Rattle.exposure.specs.declared.request.Range.{Range}
+use Rattle.exposure.specs.declared.request.Bounds.{Bounds}
 use Rattle.exposure.specs.declared.request.Request.{Request}
 use Rattle.exposure.specs.Request.{admittedOf}
 use Rattle.counts.specs.Rows.{evaluate}
@@ -55,10 +55,10 @@ pub record Report : Type 0 where
   pub active : List Bool
 
 -- the exponential of a coordinate, clamped to the bounds
-unfoldable pub naturalOf : Float → Range → Float
+unfoldable pub naturalOf : Float → Bounds → Float
 naturalOf x r = clampOf (expOf x) (r .low) (r .high)
 
-unfoldable pub onBoundOf : Float → Range → Bool
+unfoldable pub onBoundOf : Float → Bounds → Bool
 onBoundOf x r = eq x (logOf (r .low)) || eq x (logOf (r .high))
 
 abbrev pub reportOf : Request → ℕ → Descended Spot Planar → Report

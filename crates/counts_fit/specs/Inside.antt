@@ -5,17 +5,18 @@ use mathlib.Core.Bool.{true, false, _&&_}
 use mathlib.Core.List.{List}
 use Prim.Native.Nat.{ℕ}
 use lib.Ieee.{Float, lt, le, isNan}
+use Rattle.num.specs.Both.{and-left, and-right}
 use Rattle.order.specs.Order.{lt-le}
 use Rattle.order.specs.Choices.{clamp-not-below, clamp-not-above}
 use Rattle.elementary.specs.Exp.{expOf}
 use Rattle.work.specs.declared.Ending.the-variants.{Answered}
 use Rattle.work.specs.Given.{Always, holds, refuses, tested, passed}
 use Rattle.descent.specs.Stopping.{reports-evaluated}
-use Rattle.exposure.specs.declared.request.Range.{Range}
+use Rattle.exposure.specs.declared.request.Bounds.{Bounds}
 use Rattle.exposure.specs.declared.request.Request.{Request}
 use Rattle.exposure.specs.Rows.{isPositiveOf, validRowsOf}
 use Rattle.exposure.specs.Request.{validShapeOf, isBoxedOf, validShapesOf, validRatesOf, validControlsOf, validRequestOf, admittedOf}
-use Rattle.exposure.specs.Passed.{left, right, admitted-passed}
+use Rattle.exposure.specs.Passed.{admitted-passed}
 use Rattle.counts.specs.Known.{evaluate-shaped}
 use Rattle.counts.specs.Objective.{objective, inFull, objectiveOf}
 use Rattle.plane.specs.Plane.{planeOf}
@@ -23,33 +24,33 @@ use Rattle.counts_fit.specs.Fit.{Report, startOf, planeFor, valueAt, nat
 use Rattle.counts_fit.specs.Answers.{answered}
 use Rattle.counts_fit.specs.Claims.{startingOf, ends}
 
-pub record Within (x : Float) (r : Range) : Type 0 where
+pub record Within (x : Float) (r : Bounds) : Type 0 where
   pub above : le (r .low) x ≡ true
   pub below : le x (r .high) ≡ true
 
 -- an exponential that is a number, clamped
-clamped : (x : Float) (r : Range) → isBoxedOf r ≡ true → isNan (expOf x) ≡ false → Within (naturalOf x r) r
+clamped : (x : Float) (r : Bounds) → isBoxedOf r ≡ true → isNan (expOf x) ≡ false → Within (naturalOf x r) r
 unfolding naturalOf isBoxedOf
 clamped x r b n =
-    let h = lt-le (r .low) (r .high) (left (lt (r .low) (r .high)) _ b) in
+    let h = lt-le (r .low) (r .high) (and-left (lt (r .low) (r .high)) _ b) in
     record { above = clamp-not-below (expOf x) (r .low) (r .high) n h; below = clamp-not-above (expOf x) (r .low) (r .high) n h }
 
 module _ (r : Request) (cs : List ℕ) (es : List Float) where
   asked : admittedOf r cs es ≡ true → (validShapesOf (r .shape) && (validRatesOf (r .rate) && validControlsOf r)) ≡ true
   unfolding admittedOf validRequestOf
-  asked t = left (validRequestOf r) _ (left (validRequestOf r && validRowsOf cs es) _ t)
+  asked t = and-left (validRequestOf r) _ (and-left (validRequestOf r && validRowsOf cs es) _ t)
 
   shape-boxed : admittedOf r cs es ≡ true → isBoxedOf (r .shape) ≡ true
   unfolding validShapesOf
   shape-boxed t =
       let s = r .shape in
-      left (isBoxedOf s) _ (right (validShapeOf (s .start)) _ (right (validShapeOf (s .high)) _ (right (validShapeOf (s .low)) _ (left (validShapesOf s) _ (asked t)))))
+      and-left (isBoxedOf s) _ (and-right (validShapeOf (s .start)) _ (and-right (validShapeOf (s .high)) _ (and-right (validShapeOf (s .low)) _ (and-left (validShapesOf s) _ (asked t)))))
 
   rate-boxed : admittedOf r cs es ≡ true → isBoxedOf (r .rate) ≡ true
   unfolding validRatesOf
   rate-boxed t =
       let s = r .rate in
-      left (isBoxedOf s) _ (right (isPositiveOf (s .start)) _ (right (isPositiveOf (s .high)) _ (right (isPositiveOf (s .low)) _ (left (validRatesOf s) _ (right (validShapesOf (r .shape)) _ (asked t))))))
+      and-left (isBoxedOf s) _ (and-right (isPositiveOf (s .start)) _ (and-right (isPositiveOf (s .high)) _ (and-right (isPositiveOf (s .low)) _ (and-left (validRatesOf s) _ (and-right (validShapesOf (r .shape)) _ (asked t))))))
 
   -- the starting likelihood of crates/counts_fit/specs/Claims.antt is the objective's, at the start as the request has it
   pub starting-objective : admittedOf r cs es ≡ true → objectiveOf (r .shape .start) (r .rate .start) cs es .nll ≡ startingOf r cs es
@@ -57,9 +58,9 @@ module _ (r : Request) (cs : List ℕ) (es : List Float) where
   starting-objective t =
       let s = r .shape in
       let q = r .rate in
-      let a = left (validShapeOf (s .start)) _ (right (validShapeOf (s .high)) _ (right (validShapeOf (s .low)) _ (left (validShapesOf s) _ (asked t)))) in
-      let b = left (isPositiveOf (q .start)) _ (right (isPositiveOf (q .high)) _ (right (isPositiveOf (q .low)) _ (left (validRatesOf q) _ (right (validShapesOf s) _ (asked t))))) in
-      let c = right (validRequestOf r) (validRowsOf cs es) (left (validRequestOf r && validRowsOf cs es) _ t) in
+      let a = and-left (validShapeOf (s .start)) _ (and-right (validShapeOf (s .high)) _ (and-right (validShapeOf (s .low)) _ (and-left (validShapesOf s) _ (asked t)))) in
+      let b = and-left (isPositiveOf (q .start)) _ (and-right (isPositiveOf (q .high)) _ (and-right (isPositiveOf (q .low)) _ (and-left (validRatesOf q) _ (and-right (validShapesOf s) _ (asked t))))) in
+      let c = and-right (validRequestOf r) (validRowsOf cs es) (and-left (validRequestOf r && validRowsOf cs es) _ t) in
       rw (a, b, c)
 
   reports-within : Always (λ (p : Report). Within (p .shape) (r .shape)) (fit r cs es)

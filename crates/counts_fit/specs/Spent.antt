@@ -5,10 +5,11 @@ use mathlib.Core.List.{List}
 use Prim.Native.Nat.{ℕ, zero, suc, _+_, _*_, _≤_, _<_}
 use native.Mathlib.Nat.{mul-le-mul}
 use native.Mathlib.Omega.{arith}
-use borrow.Author.Tests.{leb-false, lt-ltb}
+use borrow.Author.Tests.{leb-false}
 use lib.Dec.{leb}
 use lib.Ieee.{Float, le}
 use Rattle.num.specs.F64.{zero·}
+use Rattle.stepper.specs.Stands.{one-more, no-status}
 use Rattle.work.specs.Metered.{split}
 use Rattle.descent.specs.Status.{awaitsOf, takenOf}
 use Rattle.value.specs.declared.Totals.{Totals}
@@ -27,21 +28,13 @@ chosen : {A : Type 0} (P : A → Type 0) (b : Bool) {x y : A} → (b ≡ true �
 chosen P true f g = f refl
 chosen P false f g = g refl
 
-stopped : (most e : ℕ) → awaitsOf (failedOf most e) ≡ false
-unfolding failedOf
-stopped most e = split (leb most e) (λ t. rw t) (λ t. rw t)
-
 module _ (p : Plan) where
   -- a state that awaits a value, reached with e evaluations behind it, has one more
   abbrev More : ℕ → Stepper → Type 0
   More e s = awaitsOf (s .phase .status) ≡ true → (s .evaluations .0 ≡ e + 1) × (e < p .most .0)
 
   fails : (e : ℕ) {Z : Type 0} → awaitsOf (failedOf (p .most .0) e) ≡ true → Z
-  fails e t = impossible (rw (stopped (p .most .0) e) at t)
-
-  one-more : (e most : ℕ) → e < most → oneMoreOf e most ≡ e + 1
-  unfolding oneMoreOf
-  one-more e most h = rw (lt-ltb e most h)
+  fails e t = impossible (rw (no-status (p .most .0) e) at t)
 
   proposes : (n : ℕ) (s : Stepper) → More (s .evaluations .0) (proposeFrom p n s)
   unfolding proposeFrom offeredOf

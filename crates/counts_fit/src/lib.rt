@@ -2,7 +2,7 @@
 pub mod drive;
 pub mod report;
 
-pub use exposure::request::Range;
+pub use exposure::request::Bounds;
 pub use exposure::request::Request;
 pub use report::Fit;
 pub use report::fit_gamma_poisson;

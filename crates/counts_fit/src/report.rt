@@ -2,7 +2,7 @@
 use counts::Passes;
 use course::Course;
 use descent::Status;
-use exposure::request::Range;
+use exposure::request::Bounds;
 use exposure::request::Request;
 use stepper::Plan;
 use work::Ending;
@@ -92,13 +92,13 @@ fn plan(r: Request) -> Plan
     }
 }
 
-fn natural(x: f64, r: Range) -> f64
+fn natural(x: f64, r: Bounds) -> f64
     ensures { λ v. ⌜ v ≡ naturalOf x r ⌝ }
 {
     num::clamp(elementary::exp::exp(x), r.low, r.high)
 }
 
-fn on_bound(x: f64, r: Range) -> bool
+fn on_bound(x: f64, r: Bounds) -> bool
     ensures { λ b. ⌜ b ≡ onBoundOf x r ⌝ }
 {
     let low = elementary::log::log(r.low);

@@ -7,11 +7,11 @@ use borrow.Author.Tests.{eqb-true, leb-true}
 use lib.Dec.{eqb, leb}
 use lib.ListN.{length}
 use lib.Ieee.{Float}
+use Rattle.num.specs.Both.{and-left, and-right}
 use Rattle.num.specs.Choose.{then, else, by-not-false, by-not-true}
 use Rattle.work.specs.Ended.{numberOf}
 use Rattle.store.specs.Stored.{stored}
 use Rattle.exposure.specs.declared.request.Request.{Request}
-use Rattle.exposure.specs.Passed.{left, right}
 use Rattle.counts.specs.declared.sum.Objective.{Objective}
 use Rattle.counts_fit.specs.declared.report.Fit.{Fit}
 use Rattle.counts_fit.specs.Fit.{fitOf}
@@ -30,24 +30,24 @@ put-fit-is f l m v c d w r a b p q e = rw (p, q, e, a, b)
 module _ (p q : ℕ) (t : Bool) (e : t ≡ objectiveRoomOf p q) (h : not t ≡ false) where
   pub objective-numbers : 7 ≤ p
   unfolding objectiveRoomOf
-  objective-numbers = leb-true 7 p (left (leb 7 p) _ (by-not-true t _ e h))
+  objective-numbers = leb-true 7 p (and-left (leb 7 p) _ (by-not-true t _ e h))
 
   pub objective-counts : 2 ≤ q
   unfolding objectiveRoomOf
-  objective-counts = leb-true 2 q (right (leb 7 p) _ (by-not-true t _ e h))
+  objective-counts = leb-true 2 q (and-right (leb 7 p) _ (by-not-true t _ e h))
 
 module _ (b p q : ℕ) (t : Bool) (e : t ≡ fitRoomOf b p q) (h : not t ≡ false) where
   pub fit-bounds : b ≡ 6
   unfolding fitRoomOf
-  fit-bounds = eqb-true b 6 (left (eqb b 6) _ (by-not-true t _ e h))
+  fit-bounds = eqb-true b 6 (and-left (eqb b 6) _ (by-not-true t _ e h))
 
   pub fit-numbers : 4 ≤ p
   unfolding fitRoomOf
-  fit-numbers = leb-true 4 p (left (leb 4 p) _ (right (eqb b 6) _ (by-not-true t _ e h)))
+  fit-numbers = leb-true 4 p (and-left (leb 4 p) _ (and-right (eqb b 6) _ (by-not-true t _ e h)))
 
   pub fit-counts : 8 ≤ q
   unfolding fitRoomOf
-  fit-counts = leb-true 8 q (right (leb 4 p) _ (right (eqb b 6) _ (by-not-true t _ e h)))
+  fit-counts = leb-true 8 q (and-right (leb 4 p) _ (and-right (eqb b 6) _ (by-not-true t _ e h)))
 
 -- ---- the calls
 module _ (o : Objective) (l : List Float) (c : List ℕ) (t : Bool) (e : t ≡ objectiveRoomOf (length l) (length c)) where

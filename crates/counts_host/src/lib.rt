@@ -1,12 +1,11 @@
 // The calls on counts per exposure as a host makes them: numbers for endings, and answers put into lent buffers.
 use counts::Objective;
 use counts_fit::Fit;
-use exposure::request::Range;
+use exposure::request::Bounds;
 use exposure::request::Request;
 use work::FitEvaluations;
 use work::Iterations;
 ghost use mathlib.Core.Path.{_≡_};
-ghost use mathlib.Core.Bool.{cond};
 ghost use Prim.Native.Nat.{_≤_};
 ghost use lib.ListN.{length};
 ghost use Rattle.counts.specs.Objective.{objectiveOf};
@@ -81,12 +80,12 @@ fn request(b: &[f64], tolerance: f64, evaluations: u64, iterations: u64) -> Requ
     ensures { λ r. ⌜ r ≡ requestOf (now (b .entry)) tolerance evaluations iterations ⌝ }
 {
     Request {
-        shape: Range {
+        shape: Bounds {
             low: b[0],
             high: b[1],
             start: b[2],
         },
-        rate: Range {
+        rate: Bounds {
             low: b[3],
             high: b[4],
             start: b[5],
@@ -103,12 +102,6 @@ fn fit_numbers(f: Fit) -> [f64; 4]
     [f.shape, f.rate, f.nll, f.norm]
 }
 
-fn mark(on: bool) -> u64
-    ensures { λ r. ⌜ r ≡ cond on 1 0 ⌝ }
-{
-    if on { 1 } else { 0 }
-}
-
 fn fit_counts(f: Fit) -> [u64; 8]
     ensures { λ r. ⌜ r ≡ fitCountsOf f ⌝ }
 {
@@ -122,8 +115,8 @@ fn fit_counts(f: Fit) -> [u64; 8]
         f.passes.0,
         f.rows,
         work::reason(end),
-        mark(on[0]),
-        mark(on[1]),
+        store::mark(on[0]),
+        store::mark(on[1]),
     ]
 }
 

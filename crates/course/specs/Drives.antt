@@ -1,6 +1,6 @@
 -- The laws of a loop that drives the stepper, whatever the objective: it asks for a point, evaluates there, and tells the value. r is what the loop answers.
 use mathlib.Core.Path.{_≡_, refl, sym, _∙_}
-use mathlib.Core.Bool.{Bool, true, false, cond}
+use mathlib.Core.Bool.{true, false, cond}
 use mathlib.Core.List.{List}
 use Prim.Native.Nat.{ℕ, _+_, _-_, _≤_, zero-le}
 use native.Mathlib.Omega.{arith}

@@ -5,9 +5,9 @@ use Prim.Native.Nat.{ℕ, _+_, _-_}
 use native.Mathlib.Omega.{arith}
 use native.Mathlib.Nat.{add-zero}
 use Rattle.work.specs.Ended.{Ended, done, stopped, short, invalid, domain, endOf, valueOr, isRefused}
-use Rattle.work.specs.Work.{Work, ret, stop, ask, _>>=_, Metered, metered}
+use Rattle.work.specs.Work.{Work, ret, stop, ask, _>>=_, metered}
 use Rattle.work.specs.Share.{share}
-use Rattle.work.specs.Through.{through, Open, none, Driven, heard, driven}
+use Rattle.work.specs.Through.{through, Open, Driven, heard, driven}
 
 -- ---- as one computation
 

@@ -1,18 +1,18 @@
 -- At which part of the objective a descent was refused, where the objective is a computation `inner` that asks for its parts. The part is read off the descent as
 -- one computation of those questions; a loop that drives the descent has it from the value that was refused.
 use mathlib.Core.Path.{_≡_, refl, ap, sym, _∙_}
-use mathlib.Core.Bool.{Bool, true, false}
+use mathlib.Core.Bool.{true, false}
 use mathlib.Core.List.{List}
 use Prim.Native.Nat.{ℕ, _+_, _-_}
-use native.Mathlib.Omega.{arith}
 use lib.Ieee.{Float}
+use Rattle.work.specs.Impossible.{impossible}
 use Rattle.work.specs.declared.Ending.{Ending}
 use Rattle.work.specs.Ended.{endOf, valueOr, isRefused}
-use Rattle.work.specs.Work.{Work, ask, _>>=_, metered}
+use Rattle.work.specs.Work.{Work, ask, metered}
 use Rattle.work.specs.Share.{share}
 use Rattle.work.specs.Through.{through, Open, none, Driven, driven, driven-is}
 use Rattle.descent.specs.Status.{awaitsOf}
-use Rattle.descent.specs.Descent.{Asked, Descended, descent}
+use Rattle.descent.specs.Descent.{Asked, descent}
 use Rattle.value.specs.declared.Totals.{Totals}
 use Rattle.value.specs.Totals.{noTotals}
 use Rattle.stepper.specs.declared.Plan.{Plan}
@@ -22,9 +22,6 @@ use Rattle.stepper.specs.Stands.{Rest, Stands, over, awaits, begins}
 use Rattle.course.specs.declared.Course.{Course}
 use Rattle.course.specs.Drives.{Valued, runs, courseOf, Left, hears}
 use Rattle.course.specs.Nested.{nested, pastOf, past-refused, past-answered, driven-bind, open-share}
-
-impossible : {Z : Type 0} → _≡_ {A = ℕ} 0 1 → Z
-impossible z = absurd (omega arith)
 
 module _ {E Y L S : Type 0} (at : E → Y) (ev : L → Work E Y S) (inner : List Float → Work L S Totals) (l : ℕ) (name : Open L → ℕ) where
   abbrev pub asking : {A : Type 0} → Work (Asked (List Float)) Totals A → Work L S A

@@ -1,13 +1,12 @@
 -- The kit's rounding gives the nearest f64, at a tie the even one, for every fraction whose rounding is finite; so it gives a decimal's f64.
 use mathlib.Core.Path.{_≡_, refl, sym, ap, _∙_, subst}
-use mathlib.Core.Bool.{Bool, true, false, not, cond}
+use mathlib.Core.Bool.{Bool, true, false, cond}
 use Prim.Native.Nat.{ℕ, zero, suc, _+_, _-_, _*_, _/_, _%_, _^_, _≤_, _<_, compare, Ordering, Ordering·lt, Ordering·eq, Ordering·gt}
 use native.Mathlib.Nat.{mul-right-comm, mul-pos, le-trans, lt-of-not-le, not-le-of-lt, lt-of-le-of-lt, mul-le-mul, mul-le-mul-right, div-add-mod', mod-lt, div-lt-iff-lt-mul, le-div-iff-mul-le, div-div-eq-div-mul, mul-lt-mul-of-pos-right, one-le-pow}
 use native.Mathlib.Omega.{arith}
 use borrow.Author.Tests.{ltb-true, ltb-false}
 use borrow.Table.Steps.{cases}
-use lib.Dec.{T, lit<, isLe, isEq, eqb, ltb, leb→le, nleb→lt, eqb→eq, eqb-refl}
-use lib.Arith.{lt-of-le-ne}
+use lib.Dec.{T, lit<, ltb}
 use lib.Pow.{pow-add, pow-pos, pow-mono, pow-lt}
 use lib.Ieee.{Float, nan, inf, fin, binary64, size, nearest, odd, neg, round}
 use lib.Ieee.{units as Ieee·units}

@@ -1,7 +1,7 @@
 -- What a descent asks for. Let I be kept by every candidate, from a point that has I and a value that has Q there. Then, from a start that has I and
 -- where each value has Q, every point that the descent asks for has I, what it reports has both, and it refuses nothing by itself.
 use mathlib.Core.Path.{_≡_, refl}
-use mathlib.Core.Bool.{Bool, true, cond}
+use mathlib.Core.Bool.{true}
 use mathlib.Core.List.{List, [], _∷_}
 use Prim.Native.Nat.{ℕ, zero, suc, _+_}
 use lib.Dec.{leb}

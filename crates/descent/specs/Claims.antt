@@ -1,6 +1,6 @@
 -- What may be claimed of any descent: how its trials led from the start to the point reported, and how far the likelihood may have come up on the way.
 use mathlib.Core.Path.{_≡_, refl, ap, _∙_}
-use mathlib.Core.Bool.{Bool, true, false, cond, _&&_, _||_}
+use mathlib.Core.Bool.{Bool, true, false}
 use mathlib.Core.List.{List, [], _∷_}
 use Prim.Native.Nat.{ℕ, zero, suc, _+_}
 use native.Mathlib.Omega.{arith}
@@ -8,6 +8,7 @@ use lib.Dec.{T, leb}
 use lib.ListN.{length}
 use lib.Ieee.{Float, binary64, lt, le, isNan, fits, ofBits, mul}
 use lib.Ieee.Bits.{ofBits-fits}
+use Rattle.num.specs.Both.{and-left, and-right, or-left, or-other}
 use Rattle.num.specs.F64.{_⊕_, _⊗_, zero·, half·, one·}
 use Rattle.num.specs.Helpers.{absOf, isFiniteOf}
 use Rattle.order.specs.Numbers.{finite-number, zero-finite, le-left, le-right}
@@ -21,7 +22,7 @@ use Rattle.work.specs.Metered.{split}
 use Rattle.descent.specs.declared.Trial.{Trial}
 use Rattle.descent.specs.declared.Trial.the-variants.{NotDownhill, NotMoved, TooLittle, ByDecrease, ByRounding, CutOff}
 use Rattle.descent.specs.Status.{takenOf}
-use Rattle.descent.specs.Descent.{Problem, Asked, Step, to, nowhere, Descended, rounding-unit, decrease-share, allowanceOf, boundOf, decreases, rounds, idle, idleTrial, accepts, acceptedTrial, missedTrial, try, orElse, search, descend, descent}
+use Rattle.descent.specs.Descent.{Problem, Asked, Step, to, nowhere, Descended, rounding-unit, decrease-share, allowanceOf, boundOf, decreases, rounds, idle, idleTrial, accepts, acceptedTrial, try, orElse, search, descend, descent}
 
 -- the steps that were taken by the rounding rule, of the trials, the newest first
 unfoldable pub roundingsOf : List Trial → ℕ
@@ -151,30 +152,14 @@ unraised (CutOff ∷ ts) nll h = unraised ts nll h
 pub carried : {a b c d : Float} {ts us : List Trial} → a ≡ b → ts ≡ us → c ≡ d → le b (raisedBy us d) ≡ true → le a (raisedBy ts c) ≡ true
 carried {b = b} {c = c} {ts = ts} {us = us} e f g k = ap (λ y. le y (raisedBy ts c)) e ∙ (ap (λ ws. le b (raisedBy ws c)) f ∙ (ap (λ y. le b (raisedBy us y)) g ∙ k))
 
-either-not : (a b : Bool) → (a || b) ≡ false → a ≡ false
-either-not true b h = h
-either-not false b h = refl
-
-either-other : (a b : Bool) → (a || b) ≡ true → a ≡ false → b ≡ true
-either-other true b h n = cc
-either-other false b h n = h
-
-both-first : (a b : Bool) → (a && b) ≡ true → a ≡ true
-both-first true b h = refl
-both-first false b h = h
-
-both-second : (a b : Bool) → (a && b) ≡ true → b ≡ true
-both-second true b h = h
-both-second false b h = cc
-
 -- what the rounding rule's test says
 rounds-bound : (nll slope next norm norm′ : Float) → rounds nll slope next norm norm′ ≡ true → le next (nll ⊕ allowanceOf nll) ≡ true
 unfolding rounds
-rounds-bound nll slope next norm norm′ h = both-first _ (lt norm′ norm) (both-second (le (absOf slope) (allowanceOf nll)) _ h)
+rounds-bound nll slope next norm norm′ h = and-left _ (lt norm′ norm) (and-right (le (absOf slope) (allowanceOf nll)) _ h)
 
 rounds-nearer : (nll slope next norm norm′ : Float) → rounds nll slope next norm norm′ ≡ true → lt norm′ norm ≡ true
 unfolding rounds
-rounds-nearer nll slope next norm norm′ h = both-second (le next (nll ⊕ allowanceOf nll)) _ (both-second (le (absOf slope) (allowanceOf nll)) _ h)
+rounds-nearer nll slope next norm norm′ h = and-right (le next (nll ⊕ allowanceOf nll)) _ (and-right (le (absOf slope) (allowanceOf nll)) _ h)
 
 decreases-bound : (nll slope next : Float) → decreases nll slope next ≡ true → le next (boundOf nll slope) ≡ true
 unfolding decreases
@@ -226,9 +211,9 @@ module _ {X O D : Type 0} (p : Problem X O D) (Q : X → O → Type 0) (x₀ : X
   accepted x v next c ts i a q l =
       let slope = p .slope x v next in
       split (decreases (p .nll v) slope (p .nll c))
-      (λ b. falls (record { trial = rw b; downhill = either-not (le zero· slope) (p .still next x) i; bound = decreases-bound _ _ _ b; evaluated = q }) l)
+      (λ b. falls (record { trial = rw b; downhill = or-left (le zero· slope) (p .still next x) i; bound = decreases-bound _ _ _ b; evaluated = q }) l)
       (λ b.
-      let r = either-other (decreases (p .nll v) slope (p .nll c)) _ a b in
+      let r = or-other (decreases (p .nll v) slope (p .nll c)) _ a b in
       rounds-on (record { trial = rw b; bound = rounds-bound _ _ _ _ _ r; nearer = rounds-nearer _ _ _ _ _ r; evaluated = q }) l)
 
   tried : (x : X) (v : O) (d : D) (alpha : Float) (e : ℕ) (ts : List Trial) → Here x v ts → Every (λ t. Came x v (t .step) (t .trial ∷ ts)) (try p x v d alpha e ts)

@@ -1,13 +1,13 @@
 -- The points at which a descent has its objective evaluated, each with the value it has there; what is known of these is known of the answer.
-use mathlib.Core.Path.{_≡_, refl, sym}
+use mathlib.Core.Path.{_≡_, refl}
 use mathlib.Core.List.{List, [], _∷_}
 use Prim.Native.Nat.{ℕ}
-use native.Mathlib.Omega.{arith}
+use Rattle.work.specs.Impossible.{impossible}
 use Rattle.work.specs.Ended.{Ended, done, stopped, short}
 use Rattle.work.specs.Work.{Work, ret, stop, ask, run, metered}
 use Rattle.work.specs.Given.{Given, holds, refuses, hears, of-metered, own-answer}
 use Rattle.work.specs.Asks.{Asks, gives, asks}
-use Rattle.work.specs.Through.{Open, none, refused, Driven, heard, driven}
+use Rattle.work.specs.Through.{refused, heard, driven}
 use Rattle.descent.specs.Descent.{Asked}
 use Rattle.descent.specs.Claims.{Among, newest, older}
 
@@ -23,9 +23,6 @@ abbrev noted : {X O : Type 0} → X → Ended O → (O → List (Place X O)) →
 noted x (done v) more = place x v ∷ more v
 noted x (stopped r) more = []
 noted x short more = []
-
-impossible : {Z : Type 0} → _≡_ {A = ℕ} 0 1 → Z
-impossible z = absurd (omega arith)
 
 module _ {E Y X O : Type 0} (at : E → Y) (ev : X → Work E Y O) where
   unfoldable pub pointsIn : {A : Type 0} → Work (Asked X) O A → List (Place X O)

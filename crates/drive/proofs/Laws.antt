@@ -20,8 +20,7 @@ use Rattle.course.specs.declared.Course.{Course}
 use Rattle.course.specs.Course.{refusalOf, stoppedOf}
 use Rattle.course.specs.Drives.{Valued, courseOf, run-ends, run-stops}
 use Rattle.course.specs.Parts.{Also, partOf, also-starts, also-ends, also-stops, also-turn}
-use Rattle.drive.specs.declared.Outcome.{Outcome}
-use Rattle.drive.specs.Drive.{valueAt, drivenOf, askedDescent, refusedLitter, runOf}
+use Rattle.drive.specs.Drive.{valueAt, askedDescent, refusedLitter, runOf}
 
 module _ (rule : List Pair) (ls : List ℕ) (l : ℕ) (p : Plan) (n : ℕ) where
   abbrev askedAt : List Float → Work Litter Share Totals

@@ -1,11 +1,9 @@
 -- The laws that the proofs of the lines and of the counts go by.
 use mathlib.Core.Path.{_≡_, refl, sym, ap, _∙_}
-use mathlib.Core.Bool.{Bool, true, false, _&&_}
+use mathlib.Core.Bool.{Bool, true, false}
 use mathlib.Core.List.{List, [], _∷_, _++_}
 use Prim.Native.Nat.{ℕ, _+_}
-use native.Mathlib.Nat.{zero-add}
-use lib.Dec.{leb}
-use lib.ListN.{length, getD}
+use lib.ListN.{getD}
 use lib.Ieee.{Float}
 use Rattle.num.specs.F64.{bitsOf}
 use Rattle.work.specs.declared.Ending.{Ending}
@@ -19,17 +17,10 @@ use Rattle.why.specs.declared.Stop.{Stop}
 use Rattle.why.specs.Why.{testNumber}
 use Rattle.fit.specs.declared.report.Seen.{Seen}
 use Rattle.store.specs.Stored.{stored}
-use Rattle.buffers.specs.Buffers.{fitRoomOf, putFitOf}
+use Rattle.buffers.specs.Buffers.{putFitOf}
 use Rattle.store.specs.Given.{given}
 use Rattle.explain.specs.Lines.{numberIn, trialForm, madeText, refusedText, trialText, testText, stoppedText, endingText}
-use Rattle.explain.specs.Counts.{kindOf, madeCountsOf, refusedCountsOf, trialCountsOf, whyCountsOf, got, whyRoomOf, putWhyOf}
-
--- ---- a text by another name, put in at the start
-pub from-start : (bs ds : List ℕ) (r : ℕ) → r ≡ 0 + length ds → ds ≡ bs → r ≡ length bs
-from-start bs ds r p e = rw (← e, ← zero-add (length ds)) p
-
-pub by-whole : (bs ds : List ℕ) (r : ℕ) → r ≡ length ds → ds ≡ bs → r ≡ length bs
-by-whole bs ds r p e = rw (← e) p
+use Rattle.explain.specs.Counts.{trialCountsOf, whyCountsOf, got, putWhyOf}
 
 -- ---- a trial
 pub by-made : (ds : List ℕ) (n b : ℕ) (x : Float) (t u : Trial) → t ≡ u → x ≡ numberIn t → b ≡ bitsOf x → ds ≡ render (trialForm u) (n ∷ b ∷ []) → ds ≡ madeText n t

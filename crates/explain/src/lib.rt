@@ -8,7 +8,6 @@ use work::Ending;
 ghost use mathlib.Core.Path.{_≡_};
 ghost use Prim.Native.Nat.{_≤_};
 ghost use lib.ListN.{length};
-ghost use Rattle.num.specs.F64.{bitsOf};
 ghost use Rattle.render.specs.Written.{written};
 ghost use Rattle.explain.specs.Lines.{line, numberIn, madeText, refusedText, trialText, testText, stoppedText, endingText};
 ghost use Rattle.explain.specs.Counts.{kindOf, madeCountsOf, refusedCountsOf, trialCountsOf, whyCountsOf, whyRoomOf, got, putWhyOf};

@@ -1,6 +1,6 @@
 -- What a request and rows that passed their checks have.
 use mathlib.Core.Path.{_≡_}
-use mathlib.Core.Bool.{Bool, true, false, _&&_}
+use mathlib.Core.Bool.{true, _&&_}
 use mathlib.Core.List.{List}
 use Prim.Native.Nat.{ℕ, _≤_}
 use native.Mathlib.Omega.{arith}
@@ -8,17 +8,10 @@ use borrow.Author.Tests.{leb-true, eqb-true}
 use lib.Dec.{leb, eqb}
 use lib.ListN.{length}
 use lib.Ieee.{Float}
+use Rattle.num.specs.Both.{and-left, and-right}
 use Rattle.exposure.specs.declared.request.Request.{Request}
-use Rattle.exposure.specs.Rows.{eventsOf, allPositiveOf, validRowsOf}
+use Rattle.exposure.specs.Rows.{eventsOf, validRowsOf}
 use Rattle.exposure.specs.Request.{validShapesOf, validRatesOf, upToOf, validControlsOf, productOf, validWorkOf, validRequestOf, admittedOf}
-
-pub left : (a b : Bool) → (a && b) ≡ true → a ≡ true
-left true b h = cc
-left false b h = h
-
-pub right : (a b : Bool) → (a && b) ≡ true → b ≡ true
-right true b h = h
-right false b h = cc
 
 pub record Rows (cs : List ℕ) (es : List Float) : Type 0 where
   pub some : 1 ≤ length cs
@@ -29,14 +22,14 @@ pub record Rows (cs : List ℕ) (es : List Float) : Type 0 where
 pub rows-passed : (cs : List ℕ) (es : List Float) → validRowsOf cs es ≡ true → Rows cs es
 unfolding validRowsOf
 rows-passed cs es h =
-    let a = right (leb 1 (length cs)) _ h in
-    let b = right (leb (length cs) 4096) _ a in
-    let c = right (eqb (length es) (length cs)) _ b in
+    let a = and-right (leb 1 (length cs)) _ h in
+    let b = and-right (leb (length cs) 4096) _ a in
+    let c = and-right (eqb (length es) (length cs)) _ b in
     record {
-      some = leb-true _ _ (left (leb 1 (length cs)) _ h);
-      few = leb-true _ _ (left (leb (length cs) 4096) _ a);
-      paired = eqb-true _ _ (left (eqb (length es) (length cs)) _ b);
-      million = leb-true _ _ (left (leb (eventsOf cs) 1000000) _ c);
+      some = leb-true _ _ (and-left (leb 1 (length cs)) _ h);
+      few = leb-true _ _ (and-left (leb (length cs) 4096) _ a);
+      paired = eqb-true _ _ (and-left (eqb (length es) (length cs)) _ b);
+      million = leb-true _ _ (and-left (leb (eventsOf cs) 1000000) _ c);
     }
 
 module _ (cs : List ℕ) (es : List Float) (h : validRowsOf cs es ≡ true) where
@@ -56,12 +49,12 @@ pub record Controls (r : Request) : Type 0 where
 pub controls-passed : (r : Request) → validControlsOf r ≡ true → Controls r
 unfolding validControlsOf upToOf
 controls-passed r h =
-    let a = left (leb 1 (r .evaluations .0) && leb (r .evaluations .0) 10000) _ h in
-    record { some = leb-true _ _ (left (leb 1 (r .evaluations .0)) _ a); few = leb-true _ _ (right (leb 1 (r .evaluations .0)) _ a) }
+    let a = and-left (leb 1 (r .evaluations .0) && leb (r .evaluations .0) 10000) _ h in
+    record { some = leb-true _ _ (and-left (leb 1 (r .evaluations .0)) _ a); few = leb-true _ _ (and-right (leb 1 (r .evaluations .0)) _ a) }
 
 pub request-passed : (r : Request) → validRequestOf r ≡ true → Controls r
 unfolding validRequestOf
-request-passed r h = controls-passed r (right (validRatesOf (r .rate)) _ (right (validShapesOf (r .shape)) _ h))
+request-passed r h = controls-passed r (and-right (validRatesOf (r .rate)) _ (and-right (validShapesOf (r .shape)) _ h))
 
 pub record Admitted (r : Request) (cs : List ℕ) (es : List Float) : Type 0 where
   pub rows : Rows cs es
@@ -71,11 +64,11 @@ pub record Admitted (r : Request) (cs : List ℕ) (es : List Float) : Type 0 whe
 pub admitted-passed : (r : Request) (cs : List ℕ) (es : List Float) → admittedOf r cs es ≡ true → Admitted r cs es
 unfolding admittedOf validWorkOf
 admitted-passed r cs es h =
-    let a = left (validRequestOf r && validRowsOf cs es) _ h in
+    let a = and-left (validRequestOf r && validRowsOf cs es) _ h in
     record {
-      rows = rows-passed cs es (right (validRequestOf r) _ a);
-      controls = request-passed r (left (validRequestOf r) _ a);
-      work = leb-true _ _ (right (leb 2 (length cs)) _ (right (validRequestOf r && validRowsOf cs es) _ h));
+      rows = rows-passed cs es (and-right (validRequestOf r) _ a);
+      controls = request-passed r (and-left (validRequestOf r) _ a);
+      work = leb-true _ _ (and-right (leb 2 (length cs)) _ (and-right (validRequestOf r && validRowsOf cs es) _ h));
     }
 
 -- the same of a count that was found

@@ -5,10 +5,10 @@ use Prim.Native.Nat.{ℕ, _+_, _*_}
 use lib.Dec.{leb}
 use lib.ListN.{length}
 use lib.Ieee.{Float, lt, le}
-use Rattle.num.specs.F64.{bits, zero·}
+use Rattle.num.specs.F64.{bits}
 use Rattle.num.specs.Helpers.{isFiniteOf}
 use Rattle.elementary.specs.Log.{logOf}
-use Rattle.exposure.specs.declared.request.Range.{Range}
+use Rattle.exposure.specs.declared.request.Bounds.{Bounds}
 use Rattle.exposure.specs.declared.request.Request.{Request}
 use Rattle.exposure.specs.Rows.{isPositiveOf, eventsOf, validRowsOf}
 
@@ -23,17 +23,17 @@ unfoldable pub validShapeOf : Float → Bool
 validShapeOf x = isFiniteOf x && (le least-shape x && le x most-shape)
 
 -- bounds that increase, the start inside
-unfoldable pub isBoxedOf : Range → Bool
+unfoldable pub isBoxedOf : Bounds → Bool
 isBoxedOf r = lt (r .low) (r .high) && (le (r .low) (r .start) && le (r .start) (r .high))
 
 -- the bounds' logarithms still increase; as the source has it, the upper is not at most the lower
-unfoldable pub isApartOf : Range → Bool
+unfoldable pub isApartOf : Bounds → Bool
 isApartOf r = not (le (logOf (r .high)) (logOf (r .low)))
 
-unfoldable pub validShapesOf : Range → Bool
+unfoldable pub validShapesOf : Bounds → Bool
 validShapesOf r = validShapeOf (r .low) && (validShapeOf (r .high) && (validShapeOf (r .start) && (isBoxedOf r && isApartOf r)))
 
-unfoldable pub validRatesOf : Range → Bool
+unfoldable pub validRatesOf : Bounds → Bool
 validRatesOf r = isPositiveOf (r .low) && (isPositiveOf (r .high) && (isPositiveOf (r .start) && (isBoxedOf r && isApartOf r)))
 
 -- 1 to 10,000

@@ -1,10 +1,11 @@
 -- Rows of counts, each with its exposure: two lent lists of one length. What a request has to satisfy of them.
-use mathlib.Core.Bool.{Bool, true, _&&_}
+use mathlib.Core.Bool.{Bool, _&&_}
 use mathlib.Core.List.{List}
 use Prim.Native.Nat.{ℕ, zero, suc, _+_}
 use lib.Dec.{leb, eqb}
 use lib.ListN.{length, getD}
 use lib.Ieee.{Float, nan, lt}
+use Rattle.num.specs.Every.{everyFrom}
 use Rattle.num.specs.F64.{zero·}
 use Rattle.num.specs.Helpers.{isFiniteOf}
 
@@ -18,20 +19,16 @@ exposureAt es i = getD es i nan
 unfoldable pub isPositiveOf : Float → Bool
 isPositiveOf x = isFiniteOf x && lt zero· x
 
--- n rows from the i-th on: their events, and whether each exposure is finite and positive
+-- of n rows from the i-th on
 unfoldable pub eventsFrom : List ℕ → ℕ → ℕ → ℕ
 eventsFrom cs zero i = 0
 eventsFrom cs (suc n) i = countAt cs i + eventsFrom cs n (i + 1)
-
-unfoldable pub positiveFrom : List Float → ℕ → ℕ → Bool
-positiveFrom es zero i = true
-positiveFrom es (suc n) i = isPositiveOf (exposureAt es i) && positiveFrom es n (i + 1)
 
 unfoldable pub eventsOf : List ℕ → ℕ
 eventsOf cs = eventsFrom cs (length cs) 0
 
 unfoldable pub allPositiveOf : List Float → Bool
-allPositiveOf es = positiveFrom es (length es) 0
+allPositiveOf es = everyFrom (λ i. isPositiveOf (exposureAt es i)) (length es) 0
 
 -- 1 to 4,096 rows, at most a million events in all
 unfoldable pub validRowsOf : List ℕ → List Float → Bool

@@ -11,15 +11,15 @@ ghost use Rattle.exposure.specs.Rows.{eventsOf};
 ghost use Rattle.exposure.specs.Request.{validShapeOf, isBoxedOf, isApartOf, validShapesOf, validRatesOf, upToOf, validControlsOf, productOf, validWorkOf, validRequestOf, admittedOf};
 
 // A parameter's bounds and start.
-pub struct Range {
+pub struct Bounds {
     pub low: f64,
     pub high: f64,
     pub start: f64,
 }
 
 pub struct Request {
-    pub shape: Range,
-    pub rate: Range,
+    pub shape: Bounds,
+    pub rate: Bounds,
     pub evaluations: FitEvaluations,
     pub iterations: Iterations,
     pub tolerance: f64,
@@ -34,7 +34,7 @@ pub fn valid_shape(x: f64) -> bool
     )
 }
 
-fn is_boxed(r: Range) -> bool
+fn is_boxed(r: Bounds) -> bool
     ensures { λ b. ⌜ b ≡ isBoxedOf r ⌝ }
 {
     num::both(
@@ -43,7 +43,7 @@ fn is_boxed(r: Range) -> bool
     )
 }
 
-fn is_apart(r: Range) -> bool
+fn is_apart(r: Bounds) -> bool
     ensures { λ b. ⌜ b ≡ isApartOf r ⌝ }
 {
     let low = elementary::log::log(r.low);
@@ -51,7 +51,7 @@ fn is_apart(r: Range) -> bool
     !(high <= low)
 }
 
-fn valid_shapes(r: Range) -> bool
+fn valid_shapes(r: Bounds) -> bool
     ensures { λ b. ⌜ b ≡ validShapesOf r ⌝ }
 {
     let inside = num::both(is_boxed(r), is_apart(r));
@@ -59,7 +59,7 @@ fn valid_shapes(r: Range) -> bool
     num::both(valid_shape(r.low), num::both(valid_shape(r.high), rest))
 }
 
-fn valid_rates(r: Range) -> bool
+fn valid_rates(r: Bounds) -> bool
     ensures { λ b. ⌜ b ≡ validRatesOf r ⌝ }
 {
     let inside = num::both(is_boxed(r), is_apart(r));

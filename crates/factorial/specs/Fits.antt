@@ -2,10 +2,10 @@
 use mathlib.Core.Bool.{Bool, true, false, cond}
 use Prim.Native.Nat.{ℕ, zero, suc}
 use lib.Dec.{T}
-use lib.Ieee.{Float, binary64, lt, le, eq, neg, fits}
+use lib.Ieee.{Float, binary64, le, fits}
 use lib.Ieee.Fits.{cond-fits, nan-fits, neg-fits, add-fits, sub-fits, mul-fits}
 use lib.Ieee.Bits.{ofBits-fits}
-use Rattle.num.specs.F64.{_⊖_, _⊗_, one·, infinity·, whole}
+use Rattle.num.specs.F64.{_⊖_, _⊗_, one·, whole}
 use Rattle.elementary.specs.declared.lgamma.Factors.{Factors}
 use Rattle.elementary.specs.Log.{logOf, logSmall}
 use Rattle.elementary.specs.Lgamma.{lgammaOf, lgammaBelowOne, lgammaByProduct, productOf, productFrom}

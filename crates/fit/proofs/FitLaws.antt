@@ -1,21 +1,14 @@
 -- The laws that the proofs of the fit go by: r is what the code answers.
 use mathlib.Core.Path.{_≡_, sym, _∙_}
-use mathlib.Core.Bool.{Bool, true, false, cond, _&&_}
+use mathlib.Core.Bool.{Bool, true, false}
 use mathlib.Core.List.{List, [], _∷_}
-use Prim.Native.Nat.{ℕ, _-_, _≤_, zero-le}
-use borrow.Author.Tests.{leb-true}
-use lib.Dec.{leb}
+use Prim.Native.Nat.{ℕ, _-_}
 use lib.ListN.{getD}
 use lib.Ieee.{Float, nan}
-use Rattle.work.specs.declared.Ending.the-variants.{Answered, InvalidInput}
+use Rattle.work.specs.declared.Ending.the-variants.{Answered}
 use Rattle.work.specs.Ended.{isRefused}
 use Rattle.legendre.specs.declared.Pair.{Pair}
 use Rattle.legendre.specs.Legendre.{legendreOf}
-use Rattle.posterior.specs.Integrand.{at}
-use Rattle.value.specs.declared.Totals.{Totals}
-use Rattle.objective.specs.declared.sum.Objective.{Objective}
-use Rattle.value.specs.Totals.{noTotals}
-use Rattle.objective.specs.Objective.{objective, limitedObjectiveOf}
 use Rattle.litters.specs.Litters.{countOf}
 use Rattle.request.specs.declared.Request.{Request}
 use Rattle.course.specs.declared.Course.{Course}
@@ -27,7 +20,7 @@ use Rattle.stepper.specs.declared.Plan.{Plan}
 use Rattle.why.specs.declared.Why.{Why}
 use Rattle.why.specs.declared.Stop.{Stop}
 use Rattle.why.specs.Why.{whyIn, stopIn}
-use Rattle.request.specs.Request.{upToOf, admittedOf, validBoxesOf, validControlsOf, validLimit, startOf, lowOf, highOf}
+use Rattle.request.specs.Request.{admittedOf, validLimit, startOf, lowOf, highOf}
 use Rattle.trial.specs.Judged.{normAtOf}
 use Rattle.fit.specs.Fit.{planOf, sdsOf, activeOf, refusedOf, reportedOf, wholeOf, litterOf, fitAdmittedOf, unfitOf, whyFor, stopFor, watchedOf, fitOf}
 use Rattle.fit.specs.Driven.{admitted-is, not-admitted-is}

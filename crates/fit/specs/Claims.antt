@@ -24,7 +24,7 @@ use Rattle.objective.specs.Bound.{objective-in-full}
 use Rattle.descent.specs.declared.Trial.the-variants.{ByRounding}
 use Rattle.descent.specs.Claims.{roundingsOf, raisedBy, Among, Descends, Rounded, unraised, carried, led-evaluated, rounding-step, none-among, at-most-raised, descends-by-trials}
 use Rattle.descent.specs.Descent.{Asked, Descended}
-use Rattle.descent.specs.Points.{Place, place, point-value, of-driven, of-refused}
+use Rattle.descent.specs.Points.{place, point-value, of-driven, of-refused}
 use Rattle.request.specs.declared.Request.{Request}
 use Rattle.request.specs.Request.{startOf}
 use Rattle.stepper.specs.Machine.{problemOf}
@@ -32,7 +32,7 @@ use Rattle.course.specs.Course.{trialsIn}
 use Rattle.drive.specs.Drive.{valueAt}
 use Rattle.fit.specs.declared.report.Fit.{Fit}
 use Rattle.fit.specs.Fit.{planOf, reportOf, toFit, fitOf}
-use Rattle.fit.specs.Driven.{descentOf, trialsOf, pointsOf, Ends, ends}
+use Rattle.fit.specs.Driven.{descentOf, trialsOf, pointsOf, ends}
 
 -- the starting likelihood: the objective's, called alone at the start
 abbrev pub startingOf : Request → List ℕ → Float

@@ -3,8 +3,8 @@ use mathlib.Core.Path.{_≡_, refl, ap, sym, _∙_}
 use mathlib.Core.Bool.{true, false}
 use mathlib.Core.List.{List}
 use Prim.Native.Nat.{ℕ}
-use native.Mathlib.Omega.{arith}
 use lib.Ieee.{Float}
+use Rattle.work.specs.Impossible.{impossible}
 use Rattle.work.specs.declared.Ending.the-variants.{Answered, InvalidInput}
 use Rattle.work.specs.Ended.{Ended, done, stopped, short, invalid, domain}
 use Rattle.work.specs.Metered.{split, past, branch, gives, gives-up}
@@ -43,9 +43,6 @@ pub record Ends (r : Request) (ls : List ℕ) (f : Fit) (e : Ended (Descended (L
   pub used : ℕ
   pub ended : e ≡ done d
   pub is : f ≡ toFit Answered used (reportOf r (countOf ls) (d .status) (d .x) (d .v) (d .evaluations) (d .iterations))
-
-impossible : {Z : Type 0} → _≡_ {A = ℕ} 0 1 → Z
-impossible z = absurd (omega arith)
 
 module _ (r : Request) (ls : List ℕ) where
   -- ---- the fit of a request that passes the checks, and of one that does not

@@ -27,7 +27,7 @@ use Rattle.litters.specs.Litters.{countOf}
 use Rattle.objective.specs.Finite.{Known, objective-known}
 use Rattle.descent.specs.declared.Status.{Status}
 use Rattle.request.specs.declared.Request.{Request}
-use Rattle.request.specs.Request.{admittedOf, startOf, lowOf, highOf}
+use Rattle.request.specs.Request.{admittedOf, lowOf, highOf}
 use Rattle.request.specs.Box.{Bounded, the-box, first-variance, second-variance, first-sd, second-sd}
 use Rattle.step.specs.Inside.{norm-finite}
 use Rattle.drive.specs.Drive.{valueAt}

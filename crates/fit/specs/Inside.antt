@@ -1,5 +1,5 @@
 -- Every point that a fit asks for lies in its box, so no candidate is InvalidInput: after its checks a fit ends answered, Domain or WorkBudget.
-use mathlib.Core.Path.{_≡_, refl, ap, sym, _∙_}
+use mathlib.Core.Path.{_≡_, refl, ap}
 use mathlib.Core.Bool.{Bool, true, false, _&&_}
 use mathlib.Core.List.{List}
 use mathlib.Core.Logic.{_↔_}
@@ -9,11 +9,10 @@ use lib.Dec.{T, lit<}
 use lib.ListN.{getD}
 use lib.Ieee.{Float, nan, binary64, fits}
 use lib.Ieee.Fits.{mul-fits}
+use Rattle.num.specs.Both.{and-both}
 use Rattle.order.specs.Boxes.{Inside, inside-finite}
-use Rattle.work.specs.declared.Ending.{Ending}
 use Rattle.work.specs.declared.Ending.the-variants.{InvalidInput, Domain}
 use Rattle.work.specs.Ended.{invalid}
-use Rattle.work.specs.Work.{metered}
 use Rattle.work.specs.Metered.{split}
 use Rattle.work.specs.Stops.{Stops, answers, refuses, others, passed, Reasoned, OrInvalid, or-invalid, metered-domain, metered-invalid}
 use Rattle.work.specs.Asks.{refused-by}
@@ -36,7 +35,7 @@ use Rattle.stepper.specs.Machine.{directionAtOf, problemOf}
 use Rattle.drive.specs.Drive.{valueAt}
 use Rattle.fit.specs.Fit.{planOf, fit, refusedOf, limitedFit, fitOf}
 use Rattle.fit.specs.Answers.{unfit-refused}
-use Rattle.fit.specs.Valid.{both, inside-valid}
+use Rattle.fit.specs.Valid.{inside-valid}
 
 -- a point in the request's box, its variances f64
 pub record Boxed (r : Request) (x : List Float) : Type 0 where
@@ -71,7 +70,7 @@ module _ (r : Request) (ls : List ℕ) where
 
     -- no such point is refused by the objective's own checks
     valued : (x : List Float) → Boxed r x → Stops (Reasoned 6) (valueAt legendreOf ls x)
-    valued x b = admitted-reasons legendreOf x ls (both (validPointOf x) (validLittersOf ls) (inside-valid r ls h x (b .inside)) (admitted-litters r ls h))
+    valued x b = admitted-reasons legendreOf x ls (and-both (validPointOf x) (validLittersOf ls) (inside-valid r ls h x (b .inside)) (admitted-litters r ls h))
 
     -- an admitted request's fit stops by itself for a reason from 1 to 6 alone
     pub fit-reasons : Stops (Reasoned 6) (fit legendreOf r ls)

@@ -2,8 +2,8 @@
 -- point are finite, and a zero is not downhill.
 use mathlib.Core.Path.{_≡_, refl, ap, _∙_}
 use mathlib.Core.Bool.{Bool, true, false, cond, _&&_}
-use mathlib.Core.List.{List, [], _∷_}
-use Prim.Native.Nat.{ℕ, suc, _+_, _*_, _≤_, _<_}
+use mathlib.Core.List.{List}
+use Prim.Native.Nat.{ℕ, _+_, _*_, _≤_, _<_}
 use native.Mathlib.Omega.{arith}
 use borrow.Author.Tests.{leb-true, lt-leb, le-ltb}
 use borrow.Table.Steps.{cases}
@@ -12,15 +12,15 @@ use lib.ListN.{length, getD}
 use lib.Ieee.{Float, nan, binary64, lt, le, eq, fits}
 use lib.Ieee.Bits.{ofBits-fits}
 use lib.Ieee.Fits.{add-fits}
+use Rattle.num.specs.Both.{and-left, and-right}
 use Rattle.num.specs.F64.{_⊕_, _⊖_, _⊗_, zero·}
 use Rattle.num.specs.Helpers.{isFiniteOf}
-use Rattle.finite.specs.Finite.{and-first, and-second}
+use Rattle.work.specs.Impossible.{impossible}
 use Rattle.order.specs.Numbers.{zero-finite, between-finite, finite-number}
 use Rattle.order.specs.Order.{le-then-le, eq-le, eq-ge, le-self, lt-le, not-le}
 use Rattle.order.specs.Sums.{add-not-above, add-not-below, difference-not-below, difference-not-above}
 use Rattle.order.specs.Products.{mul-swap, mul-number, mul-not-above, mul-not-below, mul-both-below}
 use Rattle.order.specs.Boxes.{FiniteFour, inside-finite}
-use Rattle.work.specs.declared.Ending.{Ending}
 use Rattle.work.specs.Ended.{Ended, done, stopped, short, endOf}
 use Rattle.work.specs.Metered.{split}
 use Rattle.work.specs.Through.{Open, none, refused, Driven}
@@ -30,11 +30,11 @@ use Rattle.value.specs.declared.Totals.{Totals}
 use Rattle.objective.specs.Finite.{Known, objective-known}
 use Rattle.descent.specs.declared.Trial.{Trial}
 use Rattle.descent.specs.declared.Trial.the-variants.{NotMoved}
-use Rattle.descent.specs.Descent.{Asked, Descended, descent}
+use Rattle.descent.specs.Descent.{Asked, Descended}
 use Rattle.descent.specs.Claims.{Among, newest, older}
 use Rattle.descent.specs.Asking.{shareOf}
 use Rattle.request.specs.declared.Request.{Request}
-use Rattle.request.specs.Request.{admittedOf, validBoxesOf, validControlsOf, validLimit, upToOf, twoEachOf, startOf, lowOf, highOf}
+use Rattle.request.specs.Request.{admittedOf, validBoxesOf, validControlsOf, validLimit, twoEachOf, startOf, lowOf, highOf}
 use Rattle.request.specs.Box.{the-box}
 use Rattle.litters.specs.Valid.{validLittersOf}
 use Rattle.step.specs.Step.{candidateOf, slopeOf, stillOf}
@@ -85,9 +85,9 @@ module _ (g next x : List Float) (i : FiniteFour g) (j : FiniteFour x) (h : stil
   still-each : (eq (getD next 0 nan) (getD x 0 nan) ≡ true) × (eq (getD next 1 nan) (getD x 1 nan) ≡ true) × (eq (getD next 2 nan) (getD x 2 nan) ≡ true) × (eq (getD next 3 nan) (getD x 3 nan) ≡ true)
   unfolding stillOf
   still-each =
-      let a = and-second (eq (getD next 0 nan) (getD x 0 nan)) _ h in
-      let b = and-second (eq (getD next 1 nan) (getD x 1 nan)) _ a in
-      (and-first (eq (getD next 0 nan) (getD x 0 nan)) _ h, and-first (eq (getD next 1 nan) (getD x 1 nan)) _ a, and-first (eq (getD next 2 nan) (getD x 2 nan)) _ b, and-second (eq (getD next 2 nan) (getD x 2 nan)) _ b)
+      let a = and-right (eq (getD next 0 nan) (getD x 0 nan)) _ h in
+      let b = and-right (eq (getD next 1 nan) (getD x 1 nan)) _ a in
+      (and-left (eq (getD next 0 nan) (getD x 0 nan)) _ h, and-left (eq (getD next 1 nan) (getD x 1 nan)) _ a, and-left (eq (getD next 2 nan) (getD x 2 nan)) _ b, and-right (eq (getD next 2 nan) (getD x 2 nan)) _ b)
 
   term : (k : ℕ) → k < 4 → eq (getD next k nan) (getD x k nan) ≡ true → Null (getD g k nan ⊗ (getD next k nan ⊖ getD x k nan))
   term k l e = null-product _ _ (i k l) (null-difference _ _ (j k l) e)
@@ -103,16 +103,13 @@ module _ (g next x : List Float) (i : FiniteFour g) (j : FiniteFour x) (h : stil
   still-not-downhill = null-slope .below
 
 -- ---- the fit
-impossible : {Z : Type 0} → _≡_ {A = ℕ} 0 1 → Z
-impossible z = absurd (omega arith)
-
 most-iterations : (n : ℕ) (boxes one more least rest litters : Bool) → (boxes && (((one && more) && ((least && leb n 1000) && rest)) && litters)) ≡ true → n ≤ 1000
 most-iterations n boxes one more least rest litters h =
-    let a = and-second boxes _ h in
-    let b = and-first ((one && more) && ((least && leb n 1000) && rest)) litters a in
-    let c = and-second (one && more) _ b in
-    let d = and-first (least && leb n 1000) rest c in
-    leb-true n 1000 (and-second least _ d)
+    let a = and-right boxes _ h in
+    let b = and-left ((one && more) && ((least && leb n 1000) && rest)) litters a in
+    let c = and-right (one && more) _ b in
+    let d = and-left (least && leb n 1000) rest c in
+    leb-true n 1000 (and-right least _ d)
 
 not-among : {n : ℕ} {ts : List Trial} → Trials n ts → Among NotMoved ts → ⊥
 not-among (one-more h l) (newest e) = let z : movedOf NotMoved ≡ true = ap (λ t. movedOf t) e ∙ h in impossible (cc)

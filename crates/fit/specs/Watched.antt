@@ -9,6 +9,7 @@ use borrow.Author.Tests.{leb-true, ltb-false, le-ltb}
 use lib.Dec.{leb, ltb}
 use lib.ListN.{length}
 use lib.Ieee.{Float}
+use Rattle.work.specs.Impossible.{impossible}
 use Rattle.work.specs.declared.Ending.{Ending}
 use Rattle.work.specs.Ended.{done, endOf}
 use Rattle.work.specs.Work.{Work, metered}
@@ -36,12 +37,9 @@ use Rattle.why.specs.declared.Why.{Why}
 use Rattle.why.specs.declared.Why.the-variants.{Made, Refused, Unmade}
 use Rattle.why.specs.Why.{whyIn, whyOf, why-is, testOf, stopIn, stopOf, stop-is}
 use Rattle.why.specs.Stopped.{StoppedBy, stopped-by}
-use Rattle.fit.specs.Fit.{planOf, wholeOf, litterOf, fitOf, whyFor}
+use Rattle.fit.specs.Fit.{planOf, wholeOf, litterOf, whyFor}
 use Rattle.fit.specs.Driven.{descentOf, trialsOf}
 use Rattle.fit.specs.Claims.{Visited, fit-rounding-step}
-
-impossible : {Z : Type 0} → _≡_ {A = ℕ} 0 1 → Z
-impossible z = absurd (omega arith)
 
 among-at : (n : ℕ) (ts : List Trial) → 1 ≤ n → n ≤ length ts → Among (trialAt n ts) ts
 unfolding trialAt

@@ -10,13 +10,14 @@ use lib.Dec.{ltb}
 use lib.ListN.{length, getD, set, length-set, replicate}
 use lib.Seq.{getD-set-same, getD-set-other}
 use lib.Ieee.{Float, nan, inf, fin, lt, le, ofBits}
+use Rattle.num.specs.Both.{and-left, and-right}
 use Rattle.num.specs.F64.{zero·, _⊘_}
 use Rattle.num.specs.Helpers.{isFiniteOf}
 use Rattle.intervals.specs.declared.interval.Interval.{Interval}
 use Rattle.intervals.specs.declared.answer.Intervals.{Intervals}
 use Rattle.finite.specs.Finite.{allFiniteOf}
 use Rattle.intervals.specs.Shape.{shapedOf, markedOf}
-use Rattle.intervals.specs.Passed.{left, right, few}
+use Rattle.intervals.specs.Passed.{few}
 use Rattle.intervals.specs.Factor.{factoredOf}
 use Rattle.intervals.specs.Interval.{noneOf, properOf, judgedOf, transformedOf, logIntervalOf, askedOf}
 use Rattle.intervals.specs.Intervals.{refusalOf, placedOf, collectedFrom, collectedOf, intervalsOf}
@@ -41,11 +42,11 @@ between (fin s m e) y a b = refl
 passed : (error lower upper : Float) → properOf error lower upper ≡ true → Proper lower upper
 unfolding properOf
 passed error lower upper h =
-    let k = right (isFiniteOf error) ((lt zero· lower && lt lower upper) && isFiniteOf upper) h in
-    let o = left (lt zero· lower && lt lower upper) (isFiniteOf upper) k in
-    let a = left (lt zero· lower) (lt lower upper) o in
-    let b = right (lt zero· lower) (lt lower upper) o in
-    record { positive = a; increasing = b; finite-lower = between lower upper a b; finite-upper = right (lt zero· lower && lt lower upper) (isFiniteOf upper) k }
+    let k = and-right (isFiniteOf error) ((lt zero· lower && lt lower upper) && isFiniteOf upper) h in
+    let o = and-left (lt zero· lower && lt lower upper) (isFiniteOf upper) k in
+    let a = and-left (lt zero· lower) (lt lower upper) o in
+    let b = and-right (lt zero· lower) (lt lower upper) o in
+    record { positive = a; increasing = b; finite-lower = between lower upper a b; finite-upper = and-right (lt zero· lower && lt lower upper) (isFiniteOf upper) k }
 
 -- ---- one interval
 

@@ -1,16 +1,16 @@
 -- Document 01's checks of litters one by one: they are what is tested. So none and more than 128 are not valid, and the numbers of a valid litter are bounded.
 use mathlib.Core.Path.{_≡_, refl, sym, _∙_}
-use mathlib.Core.Bool.{Bool, true, false, and-eq-true-iff}
+use mathlib.Core.Bool.{Bool, true, false}
 use mathlib.Core.List.{List, [], _∷_, _++_}
-use Prim.Native.Nat.{ℕ, zero, suc, _+_, _%_, _<_, _≤_}
+use Prim.Native.Nat.{ℕ, zero, suc, _+_, _%_, _<_, _≤_, zero-le}
 use native.Mathlib.Omega.{arith}
-use lib.Dec.{leb, eqb, ltb}
+use lib.Dec.{leb, eqb}
 use lib.ListN.{length, getD}
-use borrow.Author.Tests.{lt-leb, leb-true, ltb-true, ltb-false}
-use borrow.Table.Steps.{cases}
+use borrow.Author.Tests.{lt-leb, leb-true}
+use Rattle.num.specs.Every.{everyFrom, each-passes as Every·each-passes}
 use Rattle.litters.specs.All.{all, and-true, both-all, one-fails, each-passes}
 use Rattle.litters.specs.Litters.{countOf, successesAt, totalAt, groupAt}
-use Rattle.litters.specs.Valid.{validLitterOf, validFrom, validLittersOf}
+use Rattle.litters.specs.Valid.{validLitterOf, validAt, eachValidOf, validLittersOf}
 
 -- of a litter
 abbrev pub oneLitter : ℕ → ℕ → ℕ → List Bool
@@ -29,13 +29,13 @@ litter-all : (successes total group : ℕ) → validLitterOf successes total gro
 unfolding validLitterOf
 litter-all successes total group = simp and-true
 
-from-all : (ls : List ℕ) (n i : ℕ) → validFrom ls n i ≡ all (eachLitter ls n i)
-unfolding validFrom
+from-all : (ls : List ℕ) (n i : ℕ) → everyFrom (λ i. validAt ls i) n i ≡ all (eachLitter ls n i)
+unfolding everyFrom
 from-all ls zero i = refl
 from-all ls (suc n) i = both-all _ _ (oneLitter (successesAt ls i) (totalAt ls i) (groupAt ls i)) (eachLitter ls n (i + 1)) (litter-all _ _ _) (from-all ls n (i + 1))
 
 pub litters-all : (ls : List ℕ) → validLittersOf ls ≡ all (litterChecks ls)
-unfolding validLittersOf
+unfolding validLittersOf eachValidOf
 litters-all ls = rw (from-all ls (countOf ls) 0)
 
 pub litters-fail : (ls : List ℕ) (i : ℕ) → getD (litterChecks ls) i true ≡ false → validLittersOf ls ≡ false
@@ -63,12 +63,6 @@ bounds s t g h =
     record { successes = leb-true s t (passes 3); total = leb-true t 1000 (passes 2); group = leb-true g 1 (passes 0) }
 
 -- and each litter of a run of them is one
-pub each-valid : (ls : List ℕ) (k i m : ℕ) → validFrom ls k i ≡ true → i ≤ m → m < i + k → validLitterOf (successesAt ls m) (totalAt ls m) (groupAt ls m) ≡ true
-unfolding validFrom
-each-valid ls zero i m h l u = absurd (omega arith)
-each-valid ls (suc k) i m h l u =
-    let both = and-eq-true-iff (validLitterOf (successesAt ls i) (totalAt ls i) (groupAt ls i)) (validFrom ls k (i + 1)) .0 h in
-    cases
-    (ltb i m)
-    (λ e. each-valid ls k (i + 1) m (both .1) (omega (arith, ltb-true i m e)) (omega arith))
-    (λ e. let q : i ≡ m = omega (arith, ltb-false i m e) in rw (← q) (both .0))
+pub each-valid : (ls : List ℕ) (i : ℕ) → eachValidOf ls ≡ true → i < countOf ls → validAt ls i ≡ true
+unfolding eachValidOf
+each-valid ls i h l = Every·each-passes (λ i. validAt ls i) (countOf ls) 0 i h zero-le (omega arith)

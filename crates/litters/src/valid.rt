@@ -1,7 +1,6 @@
 // When a litter is valid, when each of a run is, and when the run itself is.
 ghost use mathlib.Core.Path.{_≡_};
-ghost use Rattle.litters.specs.Litters.{countOf};
-ghost use Rattle.litters.specs.Valid.{validLitterOf, validFrom, validLittersOf};
+ghost use Rattle.litters.specs.Valid.{validLitterOf, eachValidOf, validLittersOf};
 
 pub fn valid_litter(successes: u32, total: u32, group: u32) -> bool
     ensures { λ r. ⌜ r ≡ validLitterOf successes total group ⌝ }
@@ -20,7 +19,7 @@ pub fn valid_litter(successes: u32, total: u32, group: u32) -> bool
 
 // However many they are.
 pub fn each_valid(litters: &[u32]) -> bool
-    ensures { λ r. ⌜ r ≡ validFrom (now (litters .entry)) (countOf (now (litters .entry))) 0 ⌝ }
+    ensures { λ r. ⌜ r ≡ eachValidOf (now (litters .entry)) ⌝ }
 {
     let n = litters.len() / 3;
     for i in 0..n {

@@ -10,7 +10,7 @@ use Rattle.posterior.specs.declared.side.Side.the-variants.{Left, Right}
 use Rattle.posterior.specs.Side.{firstOf, risesOf, flatOf}
 use Rattle.posterior.specs.Integrand.{Eval}
 use Rattle.mode.specs.declared.Guess.{Guess}
-use Rattle.posterior.specs.Range.{Ends}
+use Rattle.posterior.specs.Flanks.{Ends}
 use Rattle.mode.specs.Bracket.{doubled, ends, checkEnds}
 use Rattle.mode.specs.Mode.{allowedOf, steps-tolerance, mode-tolerance, narrowedOf, startOf, passes, confirmed, peak}
 

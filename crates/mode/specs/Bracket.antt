@@ -4,17 +4,17 @@ use Prim.Native.Nat.{ℕ, zero, suc}
 use lib.Ieee.{Float}
 use Rattle.num.specs.F64.{_⊗_, zero·, two·}
 use Rattle.work.specs.Ended.{domain}
-use Rattle.work.specs.Work.{Work, ret, stop, eval, _>>=_, told}
+use Rattle.work.specs.Work.{Work, ret, stop, eval, told, _>>=_}
 use Rattle.posterior.specs.declared.side.Side.{Side}
 use Rattle.posterior.specs.declared.side.Side.the-variants.{Left, Right}
 use Rattle.posterior.specs.declared.integrand.Posterior.{Posterior}
 use Rattle.posterior.specs.declared.integrand.Point.{Point}
 use Rattle.posterior.specs.declared.number.Number.{Number}
-use Rattle.posterior.specs.declared.range.Range.{Range}
+use Rattle.posterior.specs.declared.flanks.Flanks.{Flanks}
 use Rattle.posterior.specs.Side.{firstOf, risesOf, flatOf}
 use Rattle.posterior.specs.Integrand.{Eval, here, from}
 use Rattle.posterior.specs.Number.{toNumber}
-use Rattle.posterior.specs.Range.{Ends, noEnds, toRange}
+use Rattle.posterior.specs.Flanks.{Ends, noEnds, toFlanks}
 
 -- at most n doublings more, from z
 unfoldable pub doubled : (Float → Eval) → Side → ℕ → Float → Work Eval Point Float
@@ -45,8 +45,8 @@ boundFrom p side n z = told (toNumber p) zero· (from p (doubled (here p) side n
 unfoldable pub doubleOf : Posterior → Side → Number
 doubleOf p side = boundFrom p side 16 (firstOf side)
 
-unfoldable pub bracketOf : Posterior → Range
-bracketOf p = told (toRange p) noEnds (from p (ends (here p)))
+unfoldable pub bracketOf : Posterior → Flanks
+bracketOf p = told (toFlanks p) noEnds (from p (ends (here p)))
 
-unfoldable pub checkOf : Posterior → Float → Float → Range
-checkOf p lo hi = told (toRange p) noEnds (from p (checkEnds (here p) (record { left = lo; right = hi })))
+unfoldable pub checkOf : Posterior → Float → Float → Flanks
+checkOf p lo hi = told (toFlanks p) noEnds (from p (checkEnds (here p) (record { left = lo; right = hi })))

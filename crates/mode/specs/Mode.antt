@@ -6,7 +6,7 @@ use Rattle.num.specs.F64.{_⊕_, _⊗_, _⊘_, bits, zero·, half·, one·}
 use Rattle.num.specs.Helpers.{absOf, clampOf}
 use Rattle.work.specs.declared.Ending.{Ending}
 use Rattle.work.specs.Ended.{domain}
-use Rattle.work.specs.Work.{Work, ret, stop, eval, _>>=_, told}
+use Rattle.work.specs.Work.{Work, ret, stop, eval, told, _>>=_}
 use Rattle.posterior.specs.declared.integrand.Posterior.{Posterior}
 use Rattle.posterior.specs.declared.integrand.Point.{Point}
 use Rattle.posterior.specs.declared.number.Number.{Number}

@@ -1,7 +1,7 @@
 // The mode's bracket: each end doubled outward until the density rises from there, at most sixteen times, then both ends checked.
+use posterior::flanks::Flanks;
 use posterior::integrand::Posterior;
 use posterior::number::Number;
-use posterior::range::Range;
 use posterior::side::Side;
 use work::Ending;
 ghost use mathlib.Core.Path.{_≡_};
@@ -36,22 +36,22 @@ fn double(p: Posterior, side: Side) -> Number
     }
 }
 
-pub fn bracket(p: Posterior) -> Range
+pub fn bracket(p: Posterior) -> Flanks
     ensures { λ r. ⌜ r ≡ bracketOf p ⌝ }
 {
     let a = double(p, Side::Left);
     let end = a.end;
     let q = a.p;
     if work::refused(end) {
-        return posterior::range::nothing(end, q);
+        return posterior::flanks::nothing(end, q);
     }
     let b = double(q, Side::Right);
     let end = b.end;
     let q = b.p;
     if work::refused(end) {
-        return posterior::range::nothing(end, q);
+        return posterior::flanks::nothing(end, q);
     }
-    Range {
+    Flanks {
         end: Ending::Answered,
         p: q,
         left: a.value,
@@ -59,28 +59,28 @@ pub fn bracket(p: Posterior) -> Range
     }
 }
 
-pub fn check(p: Posterior, lo: f64, hi: f64) -> Range
+pub fn check(p: Posterior, lo: f64, hi: f64) -> Flanks
     ensures { λ r. ⌜ r ≡ checkOf p lo hi ⌝ }
 {
     let a = posterior::integrand::evaluate(p, lo);
     let end = a.end;
     let q = a.p;
     if work::refused(end) {
-        return posterior::range::nothing(end, q);
+        return posterior::flanks::nothing(end, q);
     }
     if posterior::side::flat(Side::Left, a.v.slope) {
-        return posterior::range::nothing(Ending::Domain(1), q);
+        return posterior::flanks::nothing(Ending::Domain(1), q);
     }
     let b = posterior::integrand::evaluate(q, hi);
     let end = b.end;
     let q = b.p;
     if work::refused(end) {
-        return posterior::range::nothing(end, q);
+        return posterior::flanks::nothing(end, q);
     }
     if posterior::side::flat(Side::Right, b.v.slope) {
-        return posterior::range::nothing(Ending::Domain(1), q);
+        return posterior::flanks::nothing(Ending::Domain(1), q);
     }
-    Range {
+    Flanks {
         end: Ending::Answered,
         p: q,
         left: lo,

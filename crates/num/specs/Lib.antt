@@ -1,7 +1,9 @@
 pub mod F64
 pub mod Helpers
 pub mod Choose
+pub mod Both
 pub mod Left
+pub mod Every
 pub mod Numbers
 pub mod Leading
 pub mod Compare

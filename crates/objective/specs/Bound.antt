@@ -1,6 +1,6 @@
 -- How many evaluations an objective makes at most: 32,933 a litter, so 4,215,424 for 128. The source's cap of 8,388,608 never binds, and the objective
 -- called alone never ends in WorkBudget.
-use mathlib.Core.Path.{_≡_, refl, ap, _∙_}
+use mathlib.Core.Path.{_≡_, ap, _∙_}
 use mathlib.Core.Bool.{true}
 use mathlib.Core.List.{List}
 use Prim.Native.Nat.{ℕ, zero, suc, _+_, _*_, _≤_, min, zero-le}
@@ -9,7 +9,7 @@ use native.Mathlib.Omega.{arith}
 use lib.Dec.{lit≤}
 use lib.ListN.{length}
 use lib.Ieee.{Float}
-use Rattle.finite.specs.Finite.{and-second}
+use Rattle.num.specs.Both.{and-right}
 use Rattle.work.specs.declared.QuadratureEvaluations.{QuadratureEvaluations}
 use Rattle.work.specs.Work.{run, listed, listedL, told}
 use Rattle.work.specs.AtMost.{AtMost, rets, stops, either, both, more, at-most-listed}
@@ -34,7 +34,7 @@ module _ (rule : List Pair) (x : List Float) (ls : List ℕ) where
   rows-at-most (suc n) i t = rw (suc-mul n 32933, add-comm (n * 32933) 32933) (both (n * 32933) (share-at-most _ _ _ rule _ _) (λ s. rows-at-most n (i + 1) _))
 
   bounded : admits x ls ≡ true → countOf ls * 32933 ≤ 4215424
-  bounded t = let f = at-most-128 ls (and-second (validPointOf x) _ t) in omega arith
+  bounded t = let f = at-most-128 ls (and-right (validPointOf x) _ t) in omega arith
 
   pub objective-at-most : AtMost 4215424 (objective rule x ls)
   unfolding objective

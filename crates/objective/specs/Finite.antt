@@ -8,8 +8,9 @@ use lib.ListN.{length, getD, set, length-set}
 use lib.Ieee.{Float, nan, binary64, fits}
 use lib.Ieee.Bits.{ofBits-fits}
 use lib.Ieee.Fits.{nan-fits, add-fits}
+use Rattle.num.specs.Both.{and-left, and-right}
 use Rattle.num.specs.Helpers.{isFiniteOf}
-use Rattle.finite.specs.Finite.{allFiniteOf, each-finite, and-first, and-second}
+use Rattle.finite.specs.Finite.{allFiniteOf, each-finite}
 use Rattle.work.specs.declared.Ending.the-variants.{Answered}
 use Rattle.work.specs.declared.QuadratureEvaluations.{QuadratureEvaluations}
 use Rattle.work.specs.Given.{Always, holds, refuses, tested, passed, anything, of-answer}
@@ -84,12 +85,12 @@ pub record Known (t : Totals) : Type 0 where
 known : (t : Totals) → Sized t → finiteTotals t ≡ true → Known t
 unfolding finiteTotals
 known t s h =
-    let rest = and-second (isFiniteOf (t .nll)) _ h in
+    let rest = and-right (isFiniteOf (t .nll)) _ h in
     record {
       finite = record {
-        likelihood = and-first (isFiniteOf (t .nll)) _ h;
-        slopes = λ i l. each-finite (t .gradient) i (rw (s .gradient) l) (and-first (allFiniteOf (t .gradient)) _ rest);
-        curvatures = λ i l. each-finite (t .hessian) i (rw (s .hessian) l) (and-second (allFiniteOf (t .gradient)) _ rest);
+        likelihood = and-left (isFiniteOf (t .nll)) _ h;
+        slopes = λ i l. each-finite (t .gradient) i (rw (s .gradient) l) (and-left (allFiniteOf (t .gradient)) _ rest);
+        curvatures = λ i l. each-finite (t .hessian) i (rw (s .hessian) l) (and-right (allFiniteOf (t .gradient)) _ rest);
       };
       value = s .value;
       written = s .written;

@@ -1,6 +1,6 @@
 -- The litter at which an objective is refused: the objective as a computation that asks for each litter's share by the litter's number. The question that was
 -- refused names the litter, by its own refusal or by the limit's.
-use mathlib.Core.Path.{_≡_, refl, ap, fun-ext, _∙_}
+use mathlib.Core.Path.{_≡_, refl, ap, fun-ext}
 use mathlib.Core.Bool.{Bool, true, false, cond}
 use mathlib.Core.List.{List}
 use Prim.Native.Nat.{ℕ, zero, suc, _+_}

@@ -8,7 +8,7 @@ use Rattle.work.specs.declared.Ending.{Ending}
 use Rattle.work.specs.declared.Ending.the-variants.{Answered, Domain}
 use Rattle.work.specs.declared.QuadratureEvaluations.{QuadratureEvaluations}
 use Rattle.work.specs.Ended.{invalid, domain}
-use Rattle.work.specs.Work.{Work, ret, stop, _>>=_, metered, told}
+use Rattle.work.specs.Work.{Work, ret, stop, metered, told, _>>=_}
 use Rattle.legendre.specs.declared.Pair.{Pair}
 use Rattle.legendre.specs.Legendre.{legendreOf}
 use Rattle.posterior.specs.declared.integrand.Point.{Point}

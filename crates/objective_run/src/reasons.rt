@@ -1,7 +1,7 @@
 // Each reason of a Domain.
 use panel::Hump;
+use posterior::flanks::Flanks;
 use posterior::integrand::Posterior;
-use posterior::range::Range;
 use tail::Hill;
 use work::QuadratureEvaluations;
 
@@ -58,7 +58,7 @@ fn usual() -> Posterior {
     }
 }
 
-fn range(name: &[u8], r: Range) {
+fn flanks(name: &[u8], r: Flanks) {
     let end = r.end;
     crate::say::ended(name, end, r.p.evaluations.0);
 }
@@ -74,9 +74,9 @@ pub fn tails() {
         delta: 1.0,
         goal: -1.0,
     };
-    range(b"3: goal -1", tail::bounded(usual(), h));
+    flanks(b"3: goal -1", tail::bounded(usual(), h));
     // Thirty doublings of so small a scale stay at the mode.
-    range(
+    flanks(
         b"3: curvature 1e60",
         row::peak::limits(usual(), 0.0, -2.0, 1e60),
     );

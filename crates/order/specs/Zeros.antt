@@ -1,20 +1,20 @@
 -- The two zeros beside other f64: what adding one, or taking the larger of one, leaves as it was. Equal here is the same datum, the sign of a zero included.
 use mathlib.Core.Path.{_≡_, refl, sym, ap, _∙_}
-use mathlib.Core.Bool.{Bool, true, false, false≢true, _&&_}
-use Prim.Native.Nat.{ℕ, zero, suc, _+_, _*_, _/_, _^_, _≤_, _<_}
-use native.Mathlib.Nat.{mul-right-comm, mul-pos, zero-mul, zero-lt-suc}
+use mathlib.Core.Bool.{Bool, true, false, false≢true}
+use Prim.Native.Nat.{ℕ, zero, suc, _+_, _*_, _/_, _^_, _<_}
+use native.Mathlib.Nat.{mul-right-comm, mul-pos, zero-lt-suc}
 use native.Mathlib.Omega.{arith}
 use borrow.Author.Tests.{eqb-true}
 use borrow.Table.Steps.{cases}
 use lib.IntN.{ℤ, pos}
 use lib.Dec.{T, eqb}
-use lib.Ieee.{Float, nan, inf, fin, binary64, up, down, low, neg, add, sub, mul, lt, le, eq, isNan, fits, toBits, ofBits}
+use lib.Ieee.{Float, nan, inf, fin, binary64, up, down, low, neg, add, sub, lt, le, eq, isNan, fits, toBits, ofBits}
 use lib.Ieee.Fits.{up-pos, down-pos, neg-fits, add-fits, mul-fits}
 use lib.Ieee.Nearest.{div-same}
 use lib.Ieee.Bits.{ofBits-toBits, ofBits-fits}
-use Rattle.num.specs.F64.{_⊕_, _⊖_, _⊗_, zero·}
+use Rattle.num.specs.Both.{and-left, and-right}
+use Rattle.num.specs.F64.{_⊕_, _⊗_, zero·}
 use Rattle.num.specs.Helpers.{absOf, maxOf, clampOf, isFiniteOf}
-use Rattle.order.specs.Values.{tests}
 use Rattle.order.specs.Numbers.{finite-number, zero-finite}
 use Rattle.order.specs.Order.{le-both, le-not-lt, not-lt}
 use Rattle.order.specs.Rounding.{rounds-own}
@@ -39,14 +39,6 @@ a-zero : (s : Bool) (e : ℤ) → T (fits binary64 (fin s 0 e)) → fin s 0 e �
 unfolding fits
 a-zero s e h = one-number s 0 0 e (pos 0) (omega arith) h tt
 
-first-of : (a b : Bool) → (a && b) ≡ true → a ≡ true
-first-of true b h = refl
-first-of false b h = h
-
-second-of : (a b : Bool) → (a && b) ≡ true → b ≡ true
-second-of true b h = h
-second-of false b h = cc
-
 some-size : (m : ℕ) (e d : ℤ) → 0 < suc m * up e * down d
 some-size m e d = mul-pos (mul-pos (zero-lt-suc m) (up-pos e)) (down-pos d)
 
@@ -55,12 +47,12 @@ same-number : (x : Float) (s : Bool) (m : ℕ) (e : ℤ) → T (fits binary64 x)
 unfolding eq
 same-number nan s m e f g h = cc
 same-number (inf t) s m e f g h = cc
-same-number (fin true n d) true m e f g h = one-number true n (suc m) d e (eqb-true _ _ (first-of _ _ h)) f g
-same-number (fin false n d) false m e f g h = one-number false n (suc m) d e (eqb-true _ _ (first-of _ _ h)) f g
+same-number (fin true n d) true m e f g h = one-number true n (suc m) d e (eqb-true _ _ (and-left _ _ h)) f g
+same-number (fin false n d) false m e f g h = one-number false n (suc m) d e (eqb-true _ _ (and-left _ _ h)) f g
 same-number (fin true n d) false m e f g h =
-    absurd (omega (arith, some-size m e d, eqb-true (n * up d * down e) _ (first-of _ _ h), eqb-true (n * up d * down e) 0 (second-of (eqb (n * up d * down e) (suc m * up e * down d)) _ h)))
+    absurd (omega (arith, some-size m e d, eqb-true (n * up d * down e) _ (and-left _ _ h), eqb-true (n * up d * down e) 0 (and-right (eqb (n * up d * down e) (suc m * up e * down d)) _ h)))
 same-number (fin false n d) true m e f g h =
-    absurd (omega (arith, some-size m e d, eqb-true (n * up d * down e) _ (first-of _ _ h), eqb-true (n * up d * down e) 0 (second-of (eqb (n * up d * down e) (suc m * up e * down d)) _ h)))
+    absurd (omega (arith, some-size m e d, eqb-true (n * up d * down e) _ (and-left _ _ h), eqb-true (n * up d * down e) 0 (and-right (eqb (n * up d * down e) (suc m * up e * down d)) _ h)))
 
 -- ---- sums
 plus-zero : (s : Bool) (m : ℕ) (e : ℤ) → T (fits binary64 (fin s (suc m) e)) → fin s (suc m) e ⊕ zero· ≡ fin s (suc m) e
@@ -205,7 +197,7 @@ unfolding eq ofBits
 zero-kind nan f h = absurd (false≢true h)
 zero-kind (inf s) f h = absurd (false≢true h)
 zero-kind (fin s zero e) f h = rw (a-zero s e f) (kind-of s)
-zero-kind (fin s (suc m) e) f h = absurd (omega (arith, some-size m e (pos 0), eqb-true (suc m * up e * down (pos 0)) _ (first-of _ _ h)))
+zero-kind (fin s (suc m) e) f h = absurd (omega (arith, some-size m e (pos 0), eqb-true (suc m * up e * down (pos 0)) _ (and-left _ _ h)))
 
 times-zero : (a : Float) → isFiniteOf a ≡ true → eq (a ⊗ zero·) zero· ≡ true
 unfolding ofBits isFiniteOf

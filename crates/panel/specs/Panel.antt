@@ -5,7 +5,7 @@ use lib.ListN.{getD, replicate}
 use lib.Ieee.{Float}
 use Rattle.num.specs.F64.{_⊕_, _⊖_, _⊗_, _⊘_, whole, zero·, half·}
 use Rattle.work.specs.declared.Ending.{Ending}
-use Rattle.work.specs.Work.{Work, ret, eval, _>>=_, told}
+use Rattle.work.specs.Work.{Work, ret, eval, told, _>>=_}
 use Rattle.legendre.specs.declared.Pair.{Pair}
 use Rattle.posterior.specs.declared.integrand.Posterior.{Posterior}
 use Rattle.posterior.specs.declared.integrand.Point.{Point}

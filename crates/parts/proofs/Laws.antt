@@ -2,20 +2,18 @@
 use mathlib.Core.Path.{_≡_, refl, sym, ap, _∙_}
 use mathlib.Core.Bool.{Bool, true, false, not, _&&_, cond, and-eq-true-iff}
 use mathlib.Core.List.{List}
-use Prim.Native.Nat.{ℕ, zero, suc, _+_, _≤_, _<_}
+use Prim.Native.Nat.{ℕ, _+_, _≤_, _<_}
 use native.Mathlib.Omega.{arith}
 use borrow.Author.Tests.{leb-true, eq-eqb, ne-eqb}
-use lib.Dec.{leb, ltb}
+use lib.Dec.{leb}
 use lib.ListN.{length, take, getD, set, replicate, length-replicate}
 use lib.Seq.{paste}
 use Rattle.num.specs.Choose.{then, else, by-not-false, by-not-true}
+use Rattle.read.specs.Long.{length-fill}
 use Rattle.store.specs.Stored.{stored}
 use Rattle.read.specs.declared.Asking.{Asking}
-use Rattle.template.specs.Read.{Reading, done, departsAt, read}
-use Rattle.litters.specs.Table.{rowIn}
-use Rattle.litters.specs.Kept.{row-length}
-use Rattle.read.specs.Request.{head, litter, readRequest}
-use Rattle.read.specs.Rows.{putLitter, fillRow, fillRows, fillAfter, fillRequest, askingOf}
+use Rattle.read.specs.Request.{readRequest}
+use Rattle.read.specs.Rows.{fillRequest, askingOf}
 use Rattle.parts.specs.Kept.{roomForOf}
 use Rattle.parts.specs.Lent.{lent, told, isSizedOf, finishRoomOf, requestNumbersOf, partInOf, toldOf, finishInOf}
 use Rattle.parts.specs.JoinedLent.{sizes}
@@ -53,35 +51,6 @@ module _ (b c q l : ℕ) (t : Bool) (e : t ≡ finishRoomOf b c q l) (h : not t 
   finish-litters = leb-true 384 l (and-eq-true-iff (leb 18 q) (leb 384 l) .0 (all .1) .1)
 
 -- ---- what is told has room: the litters' buffer keeps its length, and the request has eighteen numbers
-
-length-put : (b l : List ℕ) (n : ℕ) → length (putLitter b n l) ≡ length b
-unfolding putLitter
-length-put b l n = by (ltb n 128)
-  where
-    by : (t : Bool) → length (cond t (rowIn b n (getD l 1 0) (getD l 2 0) (getD l 0 0)) b) ≡ length b
-    by true = row-length b n (getD l 1 0) (getD l 2 0) (getD l 0 0)
-    by false = refl
-
-length-rows : (k n : ℕ) (b s : List ℕ) → length (fillRows k n b s) ≡ length b
-unfolding fillRows
-length-rows zero n b s = refl
-length-rows (suc k) n b s = by (read litter (8 + n) s) (length-rows k (n + 1))
-  where
-    by : (r : Reading) → ((c t : List ℕ) → length (fillRows k (n + 1) c t) ≡ length c) → length (fillRow n b r (fillRows k (n + 1))) ≡ length b
-    by (done l t) go = go (putLitter b n l) t ∙ length-put b l n
-    by (departsAt line) go = refl
-
-length-fill : (b text : List ℕ) → length (fillRequest b text) ≡ length b
-unfolding fillRequest
-length-fill b text = by (ltb 8192 (length text))
-  where
-    by-head : (r : Reading) → length (fillAfter b r) ≡ length b
-    by-head (departsAt line) = refl
-    by-head (done vs s) = length-rows 8192 0 b s
-
-    by : (t : Bool) → length (cond t b (fillAfter b (read head 1 text))) ≡ length b
-    by true = refl
-    by false = by-head (read head 1 text)
 
 pub rows-long : (rows text : List ℕ) → rows ≡ fillRequest (replicate 384 0) text → 384 ≡ length rows
 rows-long rows text e = sym (ap length e ∙ length-fill (replicate 384 0) text ∙ length-replicate {A = ℕ} 384 0)

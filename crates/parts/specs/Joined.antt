@@ -3,11 +3,10 @@ use mathlib.Core.Path.{_≡_, refl}
 use mathlib.Core.Bool.{false, true}
 use mathlib.Core.List.{List, [], _∷_, _++_, append-assoc, append-nil}
 use Prim.Native.Nat.{ℕ}
-use lib.ListN.{length, take, length-replicate}
+use lib.ListN.{take, length-replicate}
 use Rattle.read.specs.Request.{readRequest}
 use Rattle.read.specs.Rows.{fillRequest}
 use Rattle.parts.specs.declared.by_value.Reader.{Reader}
-use Rattle.parts.specs.Kept.{roomForOf}
 use Rattle.parts.specs.ByValue.{freshOf, partOf, finishedOf}
 use Rattle.parts.specs.Front.{Keeps, more, read-kept, fill-kept}
 

@@ -3,7 +3,6 @@
 use read::Asking;
 ghost use mathlib.Core.Path.{_≡_};
 ghost use mathlib.Core.Bool.{cond};
-ghost use lib.ListN.{length};
 ghost use Rattle.parts.specs.Lent.{lent, told, isSizedOf, finishRoomOf, requestNumbersOf, partInOf, finishInOf};
 
 pub fn is_sized(buffer: usize, counts: usize) -> bool

@@ -1,5 +1,5 @@
 -- The descent in the plane is that of the four coordinates with the first and the third held at +0: their terms are zeros that change nothing.
-use mathlib.Core.Path.{_≡_, refl, sym, ap, _∙_}
+use mathlib.Core.Path.{_≡_, refl, ap, _∙_}
 use mathlib.Core.Bool.{Bool, true, false, cond, _&&_, _||_, not}
 use mathlib.Core.List.{List, [], _∷_}
 use lib.Dec.{T}
@@ -7,7 +7,7 @@ use lib.Ieee.{Float, binary64, neg, add, sub, mul, div, lt, le, eq, fits, ofBits
 use lib.Ieee.Fits.{mul-fits, cond-fits}
 use lib.Ieee.Bits.{ofBits-fits}
 use Rattle.num.specs.F64.{_⊕_, _⊖_, _⊗_, _⊘_, zero·, one·}
-use Rattle.num.specs.Helpers.{absOf, maxOf, clampOf, isFiniteOf}
+use Rattle.num.specs.Helpers.{absOf, maxOf, isFiniteOf}
 use Rattle.order.specs.Numbers.{finite-number, le-right}
 use Rattle.order.specs.Products.{mul-swap}
 use Rattle.order.specs.Choices.{abs-not-below}

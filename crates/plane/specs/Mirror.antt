@@ -1,6 +1,6 @@
 -- Two problems of which one shows the other: f takes its points and g its values across. Then their descents ask for the same points, make the same trials
 -- and come to the same answer, across. `Good` is what is known of every value.
-use mathlib.Core.Path.{_≡_, refl, sym, ap, _∙_}
+use mathlib.Core.Path.{_≡_, refl, ap}
 use mathlib.Core.Bool.{Bool, true, false, false≢true, cond}
 use mathlib.Core.List.{List, [], _∷_}
 use Prim.Native.Nat.{ℕ, zero, suc, _+_}

@@ -9,7 +9,7 @@ use borrow.Author.Tests.{leb-false}
 use lib.Dec.{leb}
 use lib.Ieee.{Float, le}
 use Rattle.num.specs.F64.{_⊗_, half·, one·}
-use Rattle.work.specs.Work.{Work, ret, stop, ask, _>>=_}
+use Rattle.work.specs.Work.{Work, ret, ask, _>>=_}
 use Rattle.work.specs.Metered.{split}
 use Rattle.work.specs.AtMost.{AtMost, both}
 use Rattle.work.specs.AtMost as bound

@@ -1,7 +1,7 @@
 -- No second answer meets a contract of the form `r ≡ definition`: one lemma, and what it says of each public function.
 use mathlib.Core.Path.{_≡_, sym, _∙_}
 use mathlib.Core.Bool.{Bool, _&&_, _||_}
-use mathlib.Core.List.{List, []}
+use mathlib.Core.List.{List}
 use Prim.Native.Nat.{ℕ, _-_, _^_}
 use lib.Ieee.{Float, nan, binary64, round}
 use Rattle.num.specs.F64.{infinity·}
@@ -30,7 +30,7 @@ use Rattle.posterior.specs.declared.integrand.Posterior.{Posterior}
 use Rattle.posterior.specs.Integrand.{integrandOf, atOf}
 use Rattle.posterior.specs.Lent.{evaluatedOf}
 use Rattle.posterior.specs.Number.{nothingOf as noNumber}
-use Rattle.posterior.specs.Range.{nothingOf as noRange}
+use Rattle.posterior.specs.Flanks.{nothingOf as noFlanks}
 use Rattle.mode.specs.Bracket.{bracketOf, checkOf as modeCheckOf}
 use Rattle.mode.specs.Mode.{nothingOf as noMode, findOf}
 use Rattle.tail.specs.Tail.{tailBoundOf, boundedOf, tailGoalOf}
@@ -45,7 +45,7 @@ use Rattle.objective.specs.Objective.{endedOf, limitedObjectiveOf, objectiveOf}
 use Rattle.descent.specs.Status as status
 use Rattle.archive.specs.Layout.{numberOf as Archive·numberOf, sizeOf, shapedOf}
 use Rattle.archive_range.specs.Reads.{runningOf}
-use Rattle.archive_range.specs.Range.{differenceOf, rangeOf as Archive·rangeOf}
+use Rattle.archive_range.specs.Range.{differenceOf, betweenOf as Archive·betweenOf}
 use Rattle.archive_check.specs.Check.{checkOf}
 use Rattle.archive_write.specs.Archive.{writeOf}
 use Rattle.planar.specs.Planar.{amongFourOf, widenedOf}
@@ -59,8 +59,7 @@ use Rattle.summary.specs.Summary.{extremeOf, noCounts, plusOf, litterCountsOf, 
 use Rattle.request.specs.declared.Request.{Request}
 use Rattle.request.specs.Request.{requestOf, upToOf, admittedOf, startOf, lowOf, highOf}
 use Rattle.step.specs.Step.{projectOf, normOf, directionOf, candidateOf, slopeOf, stillOf}
-use Rattle.trial.specs.Judged.{normAtOf, idleOf, judgedOf}
-use Rattle.trial.specs.Watch.{notedOf}
+use Rattle.trial.specs.Judged.{normAtOf}
 use Rattle.stepper.specs.Machine.{beginOf, tellOf}
 use Rattle.course.specs.Course.{refusalOf, stoppedOf}
 use Rattle.drive.specs.Drive.{drivenOf}
@@ -70,7 +69,7 @@ use Rattle.claim.specs.Give.{vetRoomOf}
 use Rattle.vet.specs.Vet.{vetOf}
 use Rattle.litters.specs.declared.Litter.{Litter}
 use Rattle.litters.specs.Litters.{countOf, numbersOf}
-use Rattle.litters.specs.Valid.{validLitterOf, validFrom, validLittersOf}
+use Rattle.litters.specs.Valid.{validLitterOf, eachValidOf, validLittersOf}
 use Rattle.litters.specs.Groups.{ofGroupOf}
 use Rattle.litters.specs.Table.{noRows, withRows, numbersForOf, handedOnOf}
 
@@ -141,7 +140,7 @@ of-normal = (one1 _, one1 _, one2 _, one3 _, one2 _, one0 _)
 pub of-twins : (a b : LogMills) (r s : Twins) → (r .low ≡ a) × (r .high ≡ b) → (s .low ≡ a) × (s .high ≡ b) → r ≡ s
 of-twins a b r s e f = rw (e .0, e .1, f .0, f .1)
 
-pub of-posterior : One5 integrandOf × One2 atOf × One2 noNumber × One2 noRange × One1 firstOf × One2 risesOf × One2 steepOf × One3 outwardOf × One2 flatOf × One1 bracketOf × One3 modeCheckOf × One2 noMode × One3 findOf × One5 tailBoundOf × One2 boundedOf × One4 tailGoalOf
+pub of-posterior : One5 integrandOf × One2 atOf × One2 noNumber × One2 noFlanks × One1 firstOf × One2 risesOf × One2 steepOf × One3 outwardOf × One2 flatOf × One1 bracketOf × One3 modeCheckOf × One2 noMode × One3 findOf × One5 tailBoundOf × One2 boundedOf × One4 tailGoalOf
 of-posterior = (one5 _, one2 _, one2 _, one2 _, one1 _, one2 _, one2 _, one3 _, one2 _, one1 _, one3 _, one2 _, one3 _, one5 _, one2 _, one4 _)
 
 -- of a lent posterior: what is returned, and what it is at exit
@@ -169,10 +168,10 @@ of-stepper = (one4 _, one2 _, one3 _)
 pub of-fit : One4 refusalOf × One2 stoppedOf × One6 drivenOf × One2 fitOf
 of-fit = (one4 _, one2 _, one6 _, one2 _)
 
-pub of-litters : One3 validLitterOf × One1 (λ (ls : List ℕ). validFrom ls (countOf ls) 0) × One1 validLittersOf × One2 (λ (ls : List ℕ) (g : ℕ). ofGroupOf ls g (countOf ls) 0) × One1 (λ (ls : List Litter). withRows ls 0 noRows) × One1 numbersForOf × One1 handedOnOf
+pub of-litters : One3 validLitterOf × One1 eachValidOf × One1 validLittersOf × One2 (λ (ls : List ℕ) (g : ℕ). ofGroupOf ls g (countOf ls) 0) × One1 (λ (ls : List Litter). withRows ls 0 noRows) × One1 numbersForOf × One1 handedOnOf
 of-litters = (one3 _, one1 _, one1 _, one2 _, one1 _, one1 _, one1 _)
 
-pub of-archive : One1 Archive·numberOf × One1 sizeOf × One1 shapedOf × One2 runningOf × One2 differenceOf × One3 Archive·rangeOf × One1 checkOf × One2 writeOf
+pub of-archive : One1 Archive·numberOf × One1 sizeOf × One1 shapedOf × One2 runningOf × One2 differenceOf × One3 Archive·betweenOf × One1 checkOf × One2 writeOf
 of-archive = (one1 _, one1 _, one1 _, one2 _, one2 _, one3 _, one1 _, one2 _)
 
 pub of-claim : One1 Claim·numberOf × One1 Claim·reasonOf × One1 pointIn × One3 inBoxOf × One2 Claim·refusalOf × One6 Claim·judgedOf × One4 vetRoomOf × One3 vetOf

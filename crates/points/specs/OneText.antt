@@ -8,10 +8,11 @@ use borrow.Table.Steps.{cases}
 use lib.Dec.{ltb}
 use lib.ListN.{length, take, drop, length-drop}
 use Rattle.num.specs.F64.{bitsOf}
+use Rattle.template.specs.DigitLaws.{not-found}
 use Rattle.fit.specs.declared.report.Fit.{Fit}
 use Rattle.template.specs.Digits.{digits}
 use Rattle.template.specs.Template.{render}
-use Rattle.template.specs.Field.{isDigitOf, isHexOf, hexValueOf, Field, found, departs}
+use Rattle.template.specs.Field.{isDigitOf, isHexOf, hexValueOf, Field}
 use Rattle.template.specs.Read.{feeds, read}
 use Rattle.template.specs.declared.token.Token.{Token}
 use Rattle.template.specs.declared.token.Token.the-variants.{Value, Departs}
@@ -34,9 +35,6 @@ same-place : (text : List ℕ) (i j : ℕ) → i ≤ length text → j ≤ lengt
 same-place text i j h g e =
     let n : length text - i ≡ length text - j = sym (length-drop i text) ∙ ap length e ∙ length-drop j text in
     omega arith
-
-not-found : (v : ℕ) (t : List ℕ) → departs ≡ found v t → ⊥
-not-found v t e = let z : _≡_ {A = ℕ} 0 1 = cc in omega arith
 
 pub of-token : (text : List ℕ) (f : Field) (r s : Token) → Says text r f → Says text s f → r ≡ s
 of-token text f (Value v i) (Value w j) a b =

@@ -1,12 +1,13 @@
 -- Document 01's rules for Rust's methods, of the definitions that the helpers' contracts cite.
 use mathlib.Core.Path.{_≡_, refl, sym, ap, subst, _∙_}
-use mathlib.Core.Bool.{Bool, true, false, cond, not}
+use mathlib.Core.Bool.{Bool, true, false, cond}
 use mathlib.Core.List.{[], _∷_}
 use lib.Dec.{T}
 use lib.Ieee.{Float, nan, inf, fin, add, sum, round, neg, lt, eq, ne, ofBits, ofFields}
 use lib.Ieee.Compare.{differs-from-itself}
 use Rattle.num.specs.F64.{_⊗_, bits, zero·, one·}
 use Rattle.num.specs.Helpers.{maxOf, minOf, clampOf, powiOf, powiFrom, sumOf}
+use Rattle.order.specs.Negation.{neg-neg}
 
 -- no comparison holds beside a NaN
 lt-nan : (x : Float) → lt x nan ≡ false
@@ -20,16 +21,6 @@ unfolding eq
 eq-nan nan = refl
 eq-nan (inf s) = refl
 eq-nan (fin s m e) = refl
-
-twice : (s : Bool) → not (not s) ≡ s
-twice true = refl
-twice false = refl
-
-neg-neg : (x : Float) → neg (neg x) ≡ x
-unfolding neg
-neg-neg nan = refl
-neg-neg (inf s) = ap inf (twice s)
-neg-neg (fin s m e) = ap (λ t. fin t m e) (twice s)
 
 -- max and min drop a NaN beside a number
 pub max-drops-first : (b : Float) → maxOf nan b ≡ b

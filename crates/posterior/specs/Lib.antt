@@ -2,4 +2,4 @@ pub mod Side
 pub mod Integrand
 pub mod Lent
 pub mod Number
-pub mod Range
+pub mod Flanks

@@ -40,12 +40,8 @@ nan-bits nan h = refl
 nan-bits (inf s) h = absurd (subst T (sym (same-sign s) ∙ h) tt)
 nan-bits (fin s m e) h = absurd (subst T (sym (same-level s (m * up e * down e)) ∙ h) tt)
 
--- ---- what was put in by another name, and at the start
 pub by-length : (bs ds : List ℕ) (at r : ℕ) → r ≡ at + length ds → ds ≡ bs → r ≡ at + length bs
 by-length bs ds at r p e = rw (← e) p
-
-pub from-start : (bs : List ℕ) (r : ℕ) → r ≡ 0 + length bs → r ≡ length bs
-from-start bs r p = rw zero-add at p
 
 pub by-status : (ds : List ℕ) (s t : Status) → s ≡ t → ds ≡ statusText t → ds ≡ statusText s
 by-status ds s t h e = rw h e
@@ -97,9 +93,6 @@ module _ (f : Fit) (vs : List ℕ) (r₁ r₂ : ℕ) (v : vs ≡ reportValues f)
 
   pub report-text : (l l₁ l₂ l₃ : List ℕ) → l₁ ≡ written l 0 (statusText (f .status)) → l₂ ≡ written l₁ r₁ (render report vs) → l₃ ≡ written l₂ r₂ (activeText (getD (f .active) 0 false) (getD (f .active) 1 false) (getD (f .active) 2 false) (getD (f .active) 3 false)) → l₃ ≡ written l 0 (reportText f)
   report-text l l₁ l₂ l₃ i j k = rw whole (search (then-text, p, q, i, j, k))
-
-pub by-whole : (bs ds : List ℕ) (r : ℕ) → r ≡ length ds → ds ≡ bs → r ≡ length bs
-by-whole bs ds r p e = rw (← e) p
 
 module _ (f : Fit) (t : Bool) (e : t ≡ isRefused (f .end)) where
   pub fit-refused : (n m : ℕ) → t ≡ true → n ≡ numberOf (f .end) → m ≡ reasonOf (f .end) → refusalText n (f .quadrature .0) m ≡ fitText f

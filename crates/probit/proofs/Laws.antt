@@ -8,6 +8,7 @@ use borrow.Author.Tests.{eqb-true, leb-true}
 use lib.Dec.{eqb, leb}
 use lib.ListN.{length, take, getD, set}
 use lib.Ieee.{Float}
+use Rattle.num.specs.Both.{and-left, and-right}
 use Rattle.num.specs.Choose.{then, else, by-not-false, by-not-true}
 use Rattle.work.specs.declared.Ending.the-variants.{InvalidInput}
 use Rattle.work.specs.Metered.{split}
@@ -40,29 +41,21 @@ use Rattle.parts.specs.JoinedLent.{sizes}
 use Rattle.probit.specs.Joined.{answered, answerRoomOf, answerIn}
 
 -- ---- a test of three lengths that passed
-left : (a b : Bool) → (a && b) ≡ true → a ≡ true
-left true b h = refl
-left false b h = h
-
-right : (a b : Bool) → (a && b) ≡ true → b ≡ true
-right true b h = h
-right false b h = let z : _≡_ {A = ℕ} 0 1 = cc in absurd (omega arith)
-
 module _ (k n c b p q : ℕ) (t : Bool) (e : t ≡ (eqb b k && (leb n p && leb c q))) (h : not t ≡ false) where
   all : (eqb b k && (leb n p && leb c q)) ≡ true
   all = by-not-true t _ e h
 
   both : (leb n p && leb c q) ≡ true
-  both = right (eqb b k) (leb n p && leb c q) all
+  both = and-right (eqb b k) (leb n p && leb c q) all
 
   pub room-length : b ≡ k
-  room-length = eqb-true b k (left (eqb b k) (leb n p && leb c q) all)
+  room-length = eqb-true b k (and-left (eqb b k) (leb n p && leb c q) all)
 
   pub room-numbers : n ≤ p
-  room-numbers = leb-true n p (left (leb n p) (leb c q) both)
+  room-numbers = leb-true n p (and-left (leb n p) (leb c q) both)
 
   pub room-counts : c ≤ q
-  room-counts = leb-true c q (right (leb n p) (leb c q) both)
+  room-counts = leb-true c q (and-right (leb n p) (leb c q) both)
 
 -- ---- a test of four lengths that passed
 module _ (b p n c : ℕ) (t : Bool) (e : t ≡ vetRoomOf b p n c) (h : not t ≡ false) where
@@ -71,16 +64,16 @@ module _ (b p n c : ℕ) (t : Bool) (e : t ≡ vetRoomOf b p n c) (h : not t ≡
   lengths = and-eq-true-iff (eqb b 12 && eqb p 5) (leb 2 n && leb 2 c) .0 (by-not-true t _ e h)
 
   pub vet-bounds : b ≡ 12
-  vet-bounds = eqb-true b 12 (left (eqb b 12) (eqb p 5) (lengths .0))
+  vet-bounds = eqb-true b 12 (and-left (eqb b 12) (eqb p 5) (lengths .0))
 
   pub vet-claim : p ≡ 5
-  vet-claim = eqb-true p 5 (right (eqb b 12) (eqb p 5) (lengths .0))
+  vet-claim = eqb-true p 5 (and-right (eqb b 12) (eqb p 5) (lengths .0))
 
   pub vet-numbers : 2 ≤ n
-  vet-numbers = leb-true 2 n (left (leb 2 n) (leb 2 c) (lengths .1))
+  vet-numbers = leb-true 2 n (and-left (leb 2 n) (leb 2 c) (lengths .1))
 
   pub vet-counts : 2 ≤ c
-  vet-counts = leb-true 2 c (right (leb 2 n) (leb 2 c) (lengths .1))
+  vet-counts = leb-true 2 c (and-right (leb 2 n) (leb 2 c) (lengths .1))
 
 module _ (v : Vetted) (b p l : List Float) (c : List ℕ) (t : Bool) (e : t ≡ vetRoomOf (length b) (length p) (length l) (length c)) where
   pub vet-wrong : not t ≡ true → given 1 l c ≡ vettedGiven v b p l c
@@ -125,19 +118,19 @@ module _ (b n c q : ℕ) (t : Bool) (e : t ≡ whyRoomOf b n c q) (h : not t ≡
 
   why-fit : (eqb b 12 && (leb 6 n && leb 10 c)) ≡ true
   unfolding fitRoomOf
-  why-fit = left (fitRoomOf b n c) (leb 7 q) why-all
+  why-fit = and-left (fitRoomOf b n c) (leb 7 q) why-all
 
   pub why-length : b ≡ 12
-  why-length = eqb-true b 12 (left (eqb b 12) (leb 6 n && leb 10 c) why-fit)
+  why-length = eqb-true b 12 (and-left (eqb b 12) (leb 6 n && leb 10 c) why-fit)
 
   pub why-numbers : 6 ≤ n
-  why-numbers = leb-true 6 n (left (leb 6 n) (leb 10 c) (right (eqb b 12) (leb 6 n && leb 10 c) why-fit))
+  why-numbers = leb-true 6 n (and-left (leb 6 n) (leb 10 c) (and-right (eqb b 12) (leb 6 n && leb 10 c) why-fit))
 
   pub why-counts : 10 ≤ c
-  why-counts = leb-true 10 c (right (leb 6 n) (leb 10 c) (right (eqb b 12) (leb 6 n && leb 10 c) why-fit))
+  why-counts = leb-true 10 c (and-right (leb 6 n) (leb 10 c) (and-right (eqb b 12) (leb 6 n && leb 10 c) why-fit))
 
   pub why-reasons : 7 ≤ q
-  why-reasons = leb-true 7 q (right (fitRoomOf b n c) (leb 7 q) why-all)
+  why-reasons = leb-true 7 q (and-right (fitRoomOf b n c) (leb 7 q) why-all)
 
 module _ (s : Seen) (b l : List Float) (c q : List ℕ) (t : Bool) (e : t ≡ whyRoomOf (length b) (length l) (length c) (length q)) where
   pub why-wrong : not t ≡ true → got 1 l c q ≡ whyGiven s b l c q

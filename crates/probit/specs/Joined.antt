@@ -1,5 +1,5 @@
 -- Parts, then the answer's bytes: what an answering call makes of a lent state, and that every cut of a text gets the answer to the whole.
-use mathlib.Core.Path.{_≡_, refl, sym, ap, _∙_}
+use mathlib.Core.Path.{_≡_, sym, ap, _∙_}
 use mathlib.Core.Bool.{Bool, cond, _&&_}
 use mathlib.Core.List.{List}
 use Prim.Native.Nat.{ℕ}

@@ -8,7 +8,7 @@ use Rattle.num.specs.F64.{_⊕_, _⊖_, _⊘_, bits, zero·}
 use Rattle.num.specs.Helpers.{absOf, maxOf, isFiniteOf}
 use Rattle.work.specs.declared.Ending.{Ending}
 use Rattle.work.specs.Ended.{domain}
-use Rattle.work.specs.Work.{Work, ret, stop, _>>=_, told}
+use Rattle.work.specs.Work.{Work, ret, stop, told, _>>=_}
 use Rattle.legendre.specs.declared.Pair.{Pair}
 use Rattle.posterior.specs.declared.integrand.Posterior.{Posterior}
 use Rattle.posterior.specs.declared.integrand.Point.{Point}

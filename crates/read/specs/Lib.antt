@@ -1,5 +1,6 @@
 pub mod Request
 pub mod Rows
+pub mod Long
 pub mod BothWays
 pub mod Filled
 pub mod Points

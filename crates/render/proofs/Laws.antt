@@ -10,11 +10,12 @@ use borrow.Author.Tests.{lt-ltb, le-ltb, ne-eqb}
 use lib.ListN.{length, drop, getD, set, length-append, drop-of-length-le, List·getD-eq-default}
 use lib.Seq.{drop-cons}
 use Rattle.num.specs.Left.{left-one, left-none}
+use Rattle.template.specs.DigitLaws.{digits-many}
 use Rattle.template.specs.Digits.{glyph, digits, placesFrom}
 use Rattle.template.specs.Template.{first, after, isHoleOf, piece, render}
 use Rattle.render.specs.Written.{written}
 use Rattle.render.specs.WrittenLaws.{length-written, written-append}
-use Rattle.render.specs.Width.{widest, width, takenAfterOf, places-most, length-digits, length-piece}
+use Rattle.render.specs.Width.{widest, width, takenAfterOf, places-most, length-piece}
 
 -- ---- how many digits: k were passed, 20 - k can still be
 module _ (n k : ℕ) where
@@ -81,10 +82,10 @@ module _ (c v : ℕ) where
 
   module _ (at r : ℕ) where
     pub ends-count : (k : ℕ) → r ≡ at + k → c ≡ 35 → k ≡ placesFrom 19 v → r ≡ at + length (piece c (v ∷ []))
-    ends-count k p h e = rw (← as-count k h e, length-digits) p
+    ends-count k p h e = rw (← as-count k h e, digits-many) p
 
     pub ends-bits : r ≡ at + 16 → c ≡ 37 → r ≡ at + length (piece c (v ∷ []))
-    ends-bits p h = rw (← as-bits h, length-digits) p
+    ends-bits p h = rw (← as-bits h, digits-many) p
 
     pub ends-byte : r ≡ at + 1 → (c ≡ 35 → ⊥) → (c ≡ 37 → ⊥) → r ≡ at + length (piece c (v ∷ []))
     ends-byte p g h = rw (← as-byte g h) p

@@ -1,11 +1,12 @@
 -- The most bytes that a template can become, whatever its values: what a buffer has to have room for.
-use mathlib.Core.Path.{_≡_, refl}
+use mathlib.Core.Path.{_≡_}
 use mathlib.Core.Bool.{Bool, true, false, cond}
 use mathlib.Core.List.{List, [], _∷_}
 use Prim.Native.Nat.{ℕ, zero, suc, _+_, _/_, _≤_, zero-le}
 use native.Mathlib.Omega.{arith}
 use lib.Dec.{ltb}
 use lib.ListN.{length, length-append}
+use Rattle.template.specs.DigitLaws.{digits-many}
 use Rattle.template.specs.Digits.{digits, placesFrom}
 use Rattle.template.specs.Template.{isCount, isBits, isHoleOf, piece, valuesAfter, render, first}
 
@@ -20,11 +21,6 @@ takenAfterOf c n = cond (isHoleOf c) (n + 1) n
 unfoldable pub width : List ℕ → ℕ
 width [] = 0
 width (c ∷ f) = widest c + width f
-
-pub length-digits : (b k n : ℕ) → length (digits b k n) ≡ k
-unfolding digits
-length-digits b zero n = refl
-length-digits b (suc k) n = rw (length-digits b k n)
 
 choice-most : (t : Bool) (k m : ℕ) → k ≤ m → cond t 1 (k + 1) ≤ suc m
 choice-most true k m h = omega arith
@@ -42,7 +38,7 @@ piece-choice false false c ds hs d h = omega arith
 
 pub length-piece : (c : ℕ) (vs : List ℕ) → length (piece c vs) ≤ widest c
 length-piece c vs =
-    piece-choice (isCount c) (isBits c) c _ _ (rw length-digits (places-most 19 (first vs))) (length-digits 16 16 (first vs))
+    piece-choice (isCount c) (isBits c) c _ _ (rw digits-many (places-most 19 (first vs))) (digits-many 16 16 (first vs))
 
 pub length-render : (f vs : List ℕ) → length (render f vs) ≤ width f
 unfolding render width

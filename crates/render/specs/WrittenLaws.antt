@@ -44,3 +44,11 @@ take-whole l bs h =
 -- what a caller learns of a function that answers how many bytes of bs it put in at the start
 pub stands : (l l′ bs : List ℕ) (r : ℕ) → length bs ≤ length l → r ≡ length bs → l′ ≡ written l 0 bs → take r l′ ≡ bs
 stands l l′ bs r h p e = rw (p, e) (take-whole l bs h)
+
+-- ---- the length of a text that was written, by another name of it
+
+pub by-whole : (bs ds : List ℕ) (r : ℕ) → r ≡ length ds → ds ≡ bs → r ≡ length bs
+by-whole bs ds r p e = rw (← e) p
+
+pub from-start : (bs ds : List ℕ) (r : ℕ) → r ≡ 0 + length ds → ds ≡ bs → r ≡ length bs
+from-start bs ds r p e = rw (← e, ← zero-add (length ds)) p

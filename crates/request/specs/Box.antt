@@ -5,18 +5,17 @@ use mathlib.Core.List.{List}
 use Prim.Native.Nat.{ℕ}
 use lib.Dec.{T}
 use lib.ListN.{getD}
-use lib.Ieee.{Float, nan, binary64, neg, mul, le, lt, eq, isNan, fits, ofBits}
+use lib.Ieee.{Float, nan, binary64, neg, mul, le, eq, fits, ofBits}
 use lib.Ieee.Fits.{mul-fits}
+use Rattle.num.specs.Both.{and-left, and-right}
 use Rattle.num.specs.F64.{_⊗_, zero·, one·, three·, eight·}
 use Rattle.num.specs.Helpers.{isFiniteOf, powiFrom, powiOf}
-use Rattle.finite.specs.Finite.{and-first, and-second}
 use Rattle.order.specs.Numbers.{zero-finite, between-finite}
 use Rattle.order.specs.Order.{le-then-le, lt-le, eq-le, eq-ge}
 use Rattle.order.specs.Products.{mul-number, mul-swap, mul-one, square-not-below, square-order}
-use Rattle.order.specs.Boxes.{four, Box, Inside, inside-finite}
+use Rattle.order.specs.Boxes.{four, Box, Inside}
 use Rattle.litters.specs.Valid.{validLittersOf}
 use Rattle.litters.specs.All.{each-passes}
-use Rattle.request.specs.declared.Bounds.{Bounds}
 use Rattle.request.specs.declared.Request.{Request}
 use Rattle.request.specs.Request.{validMeanOf, validSdOf, validMeansOf, validSdsOf, validBoxesOf, validControlsOf, twoEachOf, admittedOf, startOf, lowOf, highOf}
 use Rattle.request.specs.Checks.{meanChecks, sdChecks, mean-all, sd-all}
@@ -113,31 +112,31 @@ sd-bounded low high start v =
 module _ (r : Request) (ls : List ℕ) (h : admittedOf r ls ≡ true) where
   means : validMeansOf (r .mean) ≡ true
   unfolding admittedOf
-  means = and-first _ _ (and-first (validBoxesOf r) _ h)
+  means = and-left _ _ (and-left (validBoxesOf r) _ h)
 
   sds : validSdsOf (r .sd) ≡ true
   unfolding admittedOf
-  sds = and-second (validMeansOf (r .mean)) _ (and-first (validBoxesOf r) _ h)
+  sds = and-right (validMeansOf (r .mean)) _ (and-left (validBoxesOf r) _ h)
 
   pub admitted-litters : validLittersOf ls ≡ true
   unfolding admittedOf
-  admitted-litters = and-first _ (twoEachOf ls) (and-second (validControlsOf r) _ (and-second (validBoxesOf r) _ h))
+  admitted-litters = and-left _ (twoEachOf ls) (and-right (validControlsOf r) _ (and-right (validBoxesOf r) _ h))
 
   pub first : Coordinate (neg eight·) (getD (lowOf r) 0 nan) (getD (startOf r) 0 nan) (getD (highOf r) 0 nan) eight·
   unfolding validMeansOf
-  first = mean-known _ _ _ (and-first _ _ means)
+  first = mean-known _ _ _ (and-left _ _ means)
 
   pub second : Coordinate (neg eight·) (getD (lowOf r) 1 nan) (getD (startOf r) 1 nan) (getD (highOf r) 1 nan) eight·
   unfolding validMeansOf
-  second = mean-known _ _ _ (and-second (validMeanOf (getD (r .mean .low) 0 nan) (getD (r .mean .high) 0 nan) (getD (r .mean .start) 0 nan)) _ means)
+  second = mean-known _ _ _ (and-right (validMeanOf (getD (r .mean .low) 0 nan) (getD (r .mean .high) 0 nan) (getD (r .mean .start) 0 nan)) _ means)
 
   pub third : Coordinate zero· (getD (lowOf r) 2 nan) (getD (startOf r) 2 nan) (getD (highOf r) 2 nan) most·
   unfolding validSdsOf
-  third = variance-known _ _ _ (and-first _ _ sds)
+  third = variance-known _ _ _ (and-left _ _ sds)
 
   pub fourth : Coordinate zero· (getD (lowOf r) 3 nan) (getD (startOf r) 3 nan) (getD (highOf r) 3 nan) most·
   unfolding validSdsOf
-  fourth = variance-known _ _ _ (and-second (validSdOf (getD (r .sd .low) 0 nan) (getD (r .sd .high) 0 nan) (getD (r .sd .start) 0 nan)) _ sds)
+  fourth = variance-known _ _ _ (and-right (validSdOf (getD (r .sd .low) 0 nan) (getD (r .sd .high) 0 nan) (getD (r .sd .start) 0 nan)) _ sds)
 
   pub the-box : Box (lowOf r) (highOf r)
   the-box =
@@ -162,8 +161,8 @@ module _ (r : Request) (ls : List ℕ) (h : admittedOf r ls ≡ true) where
 
   pub first-sd : Bounded (getD (r .sd .low) 0 nan) (getD (r .sd .high) 0 nan)
   unfolding validSdsOf
-  first-sd = sd-bounded _ _ _ (and-first _ _ sds)
+  first-sd = sd-bounded _ _ _ (and-left _ _ sds)
 
   pub second-sd : Bounded (getD (r .sd .low) 1 nan) (getD (r .sd .high) 1 nan)
   unfolding validSdsOf
-  second-sd = sd-bounded _ _ _ (and-second (validSdOf (getD (r .sd .low) 0 nan) (getD (r .sd .high) 0 nan) (getD (r .sd .start) 0 nan)) _ sds)
+  second-sd = sd-bounded _ _ _ (and-right (validSdOf (getD (r .sd .low) 0 nan) (getD (r .sd .high) 0 nan) (getD (r .sd .start) 0 nan)) _ sds)

@@ -8,6 +8,8 @@ use native.Mathlib.Numerals.{add-one}
 use native.Mathlib.Omega.{arith}
 use lib.Dec.{T, leb, leb→le, nleb→lt}
 use lib.Pow.{pow-mono}
+use borrow.Author.Tests.{leb-true}
+use borrow.Table.Steps.{cases}
 use Rattle.root.specs.Steps.{startOf, stepOf, pencilFrom, pencilOf}
 use Rattle.root.specs.Squares.{twice-squared, next-squared}
 use Rattle.root.specs.declared.pencil.Row.{Row}
@@ -114,3 +116,7 @@ pencil-ge m l h = omega (arith, lt-of-not-le {n = pencilOf m + 1} {m = 2 ^ 53} (
 -- Where m is no more than 2^54 - 2, the root cannot round up to 2^54.
 pub pencil-le : (m : ℕ) → m ≤ 2 ^ 54 - 2 → pencilOf m ≤ 2 ^ 54 - 2
 pencil-le m h = omega (arith, lt-of-not-le {n = 2 ^ 54 - 1} {m = pencilOf m} (λ g. let p = pencil-law m (omega arith) .not-above in omega (arith, mul-le-mul g g)))
+
+-- what a step takes away, where the trial goes
+pub taken-at-most : (n trial : ℕ) → cond (leb trial n) trial 0 ≤ n
+taken-at-most n trial = cases (leb trial n) (λ t. rw t (leb-true trial n t)) (λ t. rw t (omega arith))

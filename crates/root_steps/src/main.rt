@@ -5,7 +5,6 @@ mod table;
 use libc::STDERR_FILENO;
 use libc::STDIN_FILENO;
 ghost use Prim.Native.Nat.{_≤_};
-ghost use lib.ListN.{length};
 
 // The bits of an f64, or none.
 enum Number {

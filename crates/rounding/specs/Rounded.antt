@@ -4,8 +4,7 @@ use mathlib.Core.Bool.{Bool, true, false, not, _&&_, cond}
 use Prim.Native.Nat.{ℕ, zero, suc, _+_, _-_, _*_, _/_, _%_, _^_, _≤_, _<_, compare, Ordering, Ordering·lt, Ordering·eq, Ordering·gt}
 use native.Mathlib.Nat.{le-trans, lt-of-lt-of-le, mul-assoc, mul-comm, mul-right-comm, mul-mul-mul-comm, mul-le-mul-left, mul-le-mul-right, mul-pos, mul-sub, le-of-mul-le-mul-right, lt-of-mul-lt-mul-right, mul-lt-mul-of-pos-right, div-add-mod', mod-lt, div-lt-iff-lt-mul, pow-succ'}
 use native.Mathlib.Omega.{arith}
-use lib.Dec.{T, isLe, isEq, eqb, ltb, leb→le, nleb→lt, eqb→eq, eqb-refl, ltb→lt, nltb→le}
-use lib.Arith.{lt-of-le-ne}
+use lib.Dec.{T, ltb, ltb→lt, nltb→le}
 use lib.Pow.{pow-pos, pow-mono}
 use lib.Ieee.{Float, nan, inf, fin, binary64, up, down, unlike, size, nearest, round, sum, add, mul}
 use lib.Ieee.Digits.{size-le}

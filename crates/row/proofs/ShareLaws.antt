@@ -19,10 +19,10 @@ use Rattle.normal.specs.Conditional.{conditionalOf}
 use Rattle.coefficient.specs.Coefficient.{coefficientOf}
 use Rattle.legendre.specs.declared.Pair.{Pair}
 use Rattle.posterior.specs.declared.integrand.Posterior.{Posterior}
-use Rattle.posterior.specs.declared.range.Range.{Range}
+use Rattle.posterior.specs.declared.flanks.Flanks.{Flanks}
 use Rattle.mode.specs.declared.Mode.{Mode}
 use Rattle.posterior.specs.Integrand.{aloneOf}
-use Rattle.posterior.specs.Range.{noEnds}
+use Rattle.posterior.specs.Flanks.{noEnds}
 use Rattle.mode.specs.Mode.{noPeak}
 use Rattle.quadrature.specs.declared.Integral.{Integral}
 use Rattle.row.specs.declared.share.Row.{Row}
@@ -48,7 +48,7 @@ module _ (i : Integral) (choose log : Float) where
   unfolding summedOf
   summed-gives m g h x t e f k u = rw (t, f, k, u, e)
 
-abbrev pub afterLimits : List Pair → Float → Mode → Range → Row
+abbrev pub afterLimits : List Pair → Float → Mode → Flanks → Row
 afterLimits rule choose m s =
     cond (isRefused (s .end)) (nothingOf (s .end) (s .p .evaluations))
     (overOf (s .p) rule (record { left = s .left; mode = m .at; right = s .right; log = m .log }) choose)
@@ -61,7 +61,7 @@ module _ (p : Posterior) (rule : List Pair) (choose : Float) (m : Mode) (e : m �
   pub spread-stops : (r : Row) → isRefused (m .end) ≡ true → r ≡ nothingOf (m .end) (m .p .evaluations) → r ≡ spreadOf p rule choose
   spread-stops r t u = rw (spread-is, ← e, t) u
 
-  pub spread-goes : (r : Row) (s : Range) → isRefused (m .end) ≡ false → s ≡ limitsOf (m .p) (m .at) (m .log) (m .curvature) → r ≡ afterLimits rule choose m s → r ≡ spreadOf p rule choose
+  pub spread-goes : (r : Row) (s : Flanks) → isRefused (m .end) ≡ false → s ≡ limitsOf (m .p) (m .at) (m .log) (m .curvature) → r ≡ afterLimits rule choose m s → r ≡ spreadOf p rule choose
   spread-goes r s t f u = rw (spread-is, ← e, t, ← f) u
 
 module _ (litter successes total : ℕ) (rule : List Pair) (mean variance : Float) (limit : QuadratureEvaluations) (choose : Float) (e : choose ≡ coefficientOf successes total) where

@@ -29,7 +29,7 @@ module _ (here : Float → Eval) where
   unfolding peaked
   peaked-at-most = both 103 (ends-at-most here) (λ e. both 101 (checkEnds-at-most here e) (λ c. peak-at-most here (c .left) (c .right)))
 
-  -- the range of the integral: 2 + 60
+  -- the limits of the integral: 2 + 60
   pub spanned-at-most : (total : ℕ) (mean sd mode log delta : Float) → AtMost 62 (spanned here total mean sd mode log delta)
   unfolding spanned
   spanned-at-most total mean sd mode log delta = both 60 (goal-at-most here mode log delta) (λ g. span-at-most here _)

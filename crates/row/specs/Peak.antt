@@ -3,14 +3,14 @@ use Prim.Native.Nat.{ℕ}
 use lib.Ieee.{Float}
 use Rattle.num.specs.F64.{_⊘_, one·}
 use Rattle.root.specs.Steps.{sqrtOf}
-use Rattle.work.specs.Work.{Work, _>>=_, told}
+use Rattle.work.specs.Work.{Work, told, _>>=_}
 use Rattle.posterior.specs.declared.integrand.Posterior.{Posterior}
 use Rattle.posterior.specs.declared.integrand.Point.{Point}
-use Rattle.posterior.specs.declared.range.Range.{Range}
+use Rattle.posterior.specs.declared.flanks.Flanks.{Flanks}
 use Rattle.mode.specs.declared.Mode.{Mode}
 use Rattle.tail.specs.declared.Hill.{Hill}
 use Rattle.posterior.specs.Integrand.{Eval, here, from}
-use Rattle.posterior.specs.Range.{Ends, noEnds, toRange}
+use Rattle.posterior.specs.Flanks.{Ends, noEnds, toFlanks}
 use Rattle.mode.specs.Bracket.{ends, checkEnds}
 use Rattle.mode.specs.Mode.{Peak, peak, noPeak, toMode}
 use Rattle.tail.specs.Tail.{goal, span}
@@ -38,5 +38,5 @@ spanned here total mean sd mode log delta = do
 unfoldable pub locatedOf : Posterior → Mode
 locatedOf p = told (toMode p) noPeak (from p (peaked (here p)))
 
-unfoldable pub limitsOf : Posterior → Float → Float → Float → Range
-limitsOf p mode log curvature = told (toRange p) noEnds (from p (spanned (here p) (p .total) (p .mean) (p .sd) mode log (scaleOf curvature)))
+unfoldable pub limitsOf : Posterior → Float → Float → Float → Flanks
+limitsOf p mode log curvature = told (toFlanks p) noEnds (from p (spanned (here p) (p .total) (p .mean) (p .sd) mode log (scaleOf curvature)))

@@ -11,7 +11,7 @@ use Rattle.work.specs.declared.Ending.{Ending}
 use Rattle.work.specs.declared.Ending.the-variants.{Answered}
 use Rattle.work.specs.declared.QuadratureEvaluations.{QuadratureEvaluations}
 use Rattle.work.specs.Ended.{isRefused}
-use Rattle.work.specs.Work.{Work, ret, eval, _>>=_, metered, told}
+use Rattle.work.specs.Work.{Work, ret, eval, metered, told, _>>=_}
 use Rattle.coefficient.specs.Coefficient.{coefficientOf}
 use Rattle.legendre.specs.declared.Pair.{Pair}
 use Rattle.posterior.specs.declared.integrand.Posterior.{Posterior}

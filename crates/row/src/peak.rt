@@ -1,7 +1,7 @@
 // The mode of a litter's posterior, and how far out its integral is taken.
 use mode::Mode;
+use posterior::flanks::Flanks;
 use posterior::integrand::Posterior;
-use posterior::range::Range;
 use tail::Hill;
 ghost use mathlib.Core.Path.{_≡_};
 ghost use Rattle.row.specs.Peak.{locatedOf, limitsOf};
@@ -24,7 +24,7 @@ pub fn located(p: Posterior) -> Mode
     mode::find(q, e.left, e.right)
 }
 
-pub fn limits(p: Posterior, mode: f64, log: f64, curvature: f64) -> Range
+pub fn limits(p: Posterior, mode: f64, log: f64, curvature: f64) -> Flanks
     ensures { λ r. ⌜ r ≡ limitsOf p mode log curvature ⌝ }
 {
     let delta = 1.0 / root::sqrt(curvature);
@@ -32,7 +32,7 @@ pub fn limits(p: Posterior, mode: f64, log: f64, curvature: f64) -> Range
     let end = g.end;
     let q = g.p;
     if work::refused(end) {
-        return posterior::range::nothing(end, q);
+        return posterior::flanks::nothing(end, q);
     }
     let h = Hill {
         total: q.total,

@@ -7,6 +7,9 @@ use native.Mathlib.Omega.{arith}
 use lib.ListN.{length}
 use lib.Pow.{pow-add}
 
+more : (l m n : ℕ) → suc l + m ≤ suc n → l + suc m ≤ suc n
+more l m n h = omega arith
+
 -- p - n
 pub record Signed : Type 0 where
   pub p : ℕ
@@ -122,9 +125,6 @@ module _ (u m a b : ℕ) where
         n = rw (part-cons-n (k + j) c cs, part-cons-p j c cs, part-cons-n j c cs) (spread c _ _ _ _ _ _ _ _ _ _ _ (q .n) e iN);
       }
     where
-      more : (l m n : ℕ) → suc l + m ≤ suc n → l + suc m ≤ suc n
-      more l m n h = omega arith
-
       low : (l m n : ℕ) → suc l + m ≤ suc n → m ≤ n
       low l m n h = omega arith
 
@@ -159,8 +159,5 @@ module _ (u m a b c : ℕ) where
         n = rw (part-cons-n u (suc m) a b j (d * c) (scaled c ds), part-cons-n u m a b j d ds) (again d _ _ _ _ _ e (i .n));
       }
     where
-      more : (l j n : ℕ) → suc l + j ≤ suc n → l + suc j ≤ suc n
-      more l j n h = omega arith
-
       low : (l j n : ℕ) → suc l + j ≤ suc n → suc n - j ≡ suc (n - j)
       low l j n h = omega arith

@@ -9,15 +9,15 @@ use lib.ListN.{getD}
 use lib.Ieee.{Float, nan, binary64, lt, le, eq, isNan, fits}
 use lib.Ieee.Bits.{ofBits-fits}
 use lib.Ieee.Fits.{cond-fits, add-fits}
+use Rattle.num.specs.Both.{and-left, and-right}
 use Rattle.num.specs.F64.{_⊕_, _⊗_, zero·}
-use Rattle.num.specs.Helpers.{absOf, maxOf, clampOf, isFiniteOf}
-use Rattle.finite.specs.Finite.{and-first, and-second}
+use Rattle.num.specs.Helpers.{absOf, clampOf, isFiniteOf}
 use Rattle.order.specs.Numbers.{zero-finite}
 use Rattle.order.specs.Negation.{neg-finite}
 use Rattle.order.specs.Sums.{add-swap, add-number}
 use Rattle.order.specs.Products.{mul-number}
 use Rattle.order.specs.Choices.{clamp-not-below, clamp-not-above, abs-finite, max-finite}
-use Rattle.order.specs.Boxes.{Four, four, FiniteFour, Box, Inside}
+use Rattle.order.specs.Boxes.{four, FiniteFour, Box, Inside}
 use Rattle.step.specs.Step.{projectAtOf, projectOf, normOf, finiteFourOf, dotOf, negated, safeOf, directionOf, candidateOf}
 
 -- ---- the projected gradient
@@ -50,9 +50,9 @@ negated-finite g f =
 
 each-of-four : (d : List Float) → finiteFourOf d ≡ true → FiniteFour d
 each-of-four d h =
-    let second = and-second (isFiniteOf (getD d 0 nan)) _ h in
-    let third = and-second (isFiniteOf (getD d 1 nan)) _ second in
-    four (λ i. isFiniteOf (getD d i nan) ≡ true) (and-first _ _ h) (and-first _ _ second) (and-first _ _ third) (and-second (isFiniteOf (getD d 2 nan)) _ third)
+    let second = and-right (isFiniteOf (getD d 0 nan)) _ h in
+    let third = and-right (isFiniteOf (getD d 1 nan)) _ second in
+    four (λ i. isFiniteOf (getD d i nan) ≡ true) (and-left _ _ h) (and-left _ _ second) (and-left _ _ third) (and-right (isFiniteOf (getD d 2 nan)) _ third)
 
 not-first : (a b : Bool) → (not a || b) ≡ false → a ≡ true
 not-first true b h = refl

@@ -11,7 +11,6 @@ use lib.Ieee.{Float, le}
 use Rattle.num.specs.F64.{_⊗_, zero·, half·, one·}
 use Rattle.work.specs.Work.{Work, ret, ask, _>>=_}
 use Rattle.work.specs.Metered.{split}
-use Rattle.descent.specs.declared.Status.{Status}
 use Rattle.descent.specs.declared.Status.the-variants.{NoStatus}
 use Rattle.descent.specs.declared.Trial.{Trial}
 use Rattle.descent.specs.declared.Trial.the-variants.{CutOff}
@@ -38,11 +37,11 @@ pub data Stands (p : Plan) (n : ℕ) : Stepper → Rest → Type 0 where
   awaits : {s : Stepper} {ts : List Trial} {k : Totals → Rest} → awaitsOf (s .phase .status) ≡ true → s .watch ≡ watchOf n ts → ((c : Totals) → Stands p n (tellOf p s c) (k c)) → Stands p n s (ask (record { at = s .next; begun = s .phase .begun; trials = ts }) k)
 
 -- ---- the proof
-one-more : (n most : ℕ) → n < most → oneMoreOf n most ≡ n + 1
+pub one-more : (n most : ℕ) → n < most → oneMoreOf n most ≡ n + 1
 unfolding oneMoreOf
 one-more n most h = rw (lt-ltb n most h)
 
-no-status : (most e : ℕ) → awaitsOf (failedOf most e) ≡ false
+pub no-status : (most e : ℕ) → awaitsOf (failedOf most e) ≡ false
 unfolding failedOf
 no-status most e = split (leb most e) (λ t. rw t) (λ t. rw t)
 

@@ -1,5 +1,6 @@
-// Values stored into a lent buffer from its start on.
+// Values stored into a lent buffer from its start on, and a mark as a count.
 ghost use mathlib.Core.Path.{_≡_};
+ghost use mathlib.Core.Bool.{cond};
 ghost use Prim.Native.Nat.{_≤_};
 ghost use lib.ListN.{length};
 ghost use Rattle.store.specs.Stored.{stored};
@@ -29,4 +30,10 @@ pub fn litters(l: &[u32], out: &mut [u32])
     for i in 0..l.len() {
         out[i] = l[i];
     }
+}
+
+pub fn mark(on: bool) -> u64
+    ensures { λ r. ⌜ r ≡ cond on 1 0 ⌝ }
+{
+    if on { 1 } else { 0 }
 }

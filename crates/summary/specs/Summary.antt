@@ -1,6 +1,6 @@
 -- The group summary: for each group the number of litters, successes, trials and extreme litters.
 use mathlib.Core.Bool.{Bool, _||_, cond}
-use mathlib.Core.List.{List}
+use mathlib.Core.List.{List, [], _∷_, _++_}
 use Prim.Native.Nat.{ℕ, zero, suc, _+_, _<_}
 use lib.Dec.{eqb}
 use Rattle.work.specs.declared.Ending.the-variants.{Answered, InvalidInput}
@@ -40,6 +40,13 @@ countsFrom ls asked (suc n) i = plusOf (litterCountsOf asked (successesAt ls i) 
 
 unfoldable pub countsOf : List ℕ → ℕ → GroupCounts
 countsOf ls asked = countsFrom ls asked (countOf ls) 0
+
+abbrev groupList : GroupCounts → List ℕ
+groupList c = c .litters ∷ c .successes ∷ c .trials ∷ c .extreme ∷ []
+
+-- both groups' counts, as a host is given them
+abbrev pub listedOf : GroupCounts → GroupCounts → List ℕ
+listedOf a b = groupList a ++ groupList b
 
 -- a refusal: its ending and zeros
 abbrev pub refusalOf : Summary

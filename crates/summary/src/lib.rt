@@ -4,7 +4,7 @@ ghost use mathlib.Core.Path.{_≡_};
 ghost use mathlib.Core.Bool.{cond};
 ghost use Prim.Native.Nat.{_<_};
 ghost use lib.ListN.{length};
-ghost use Rattle.summary.specs.Summary.{extremeOf, noCounts, plusOf, litterCountsOf, countsOf, refusalOf, summaryOf, Adds};
+ghost use Rattle.summary.specs.Summary.{extremeOf, noCounts, plusOf, litterCountsOf, countsOf, listedOf, refusalOf, summaryOf, Adds};
 
 pub struct GroupCounts {
     pub litters: u64,
@@ -40,6 +40,22 @@ pub fn no_counts() -> GroupCounts
         trials: 0,
         extreme: 0,
     }
+}
+
+// Both groups' counts in the order in which a host is given them.
+pub fn listed(a: GroupCounts, b: GroupCounts) -> [u64; 8]
+    ensures { λ r. ⌜ r ≡ listedOf a b ⌝ }
+{
+    [
+        a.litters,
+        a.successes,
+        a.trials,
+        a.extreme,
+        b.litters,
+        b.successes,
+        b.trials,
+        b.extreme,
+    ]
 }
 
 pub fn plus(a: GroupCounts, b: GroupCounts) -> GroupCounts

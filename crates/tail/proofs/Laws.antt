@@ -16,7 +16,7 @@ use Rattle.posterior.specs.declared.side.Side.the-variants.{Left, Right}
 use Rattle.posterior.specs.declared.integrand.Posterior.{Posterior}
 use Rattle.posterior.specs.declared.integrand.At as integrand
 use Rattle.posterior.specs.declared.number.Number.{Number}
-use Rattle.posterior.specs.declared.range.Range.{Range}
+use Rattle.posterior.specs.declared.flanks.Flanks.{Flanks}
 use Rattle.tail.specs.declared.TailBound.{TailBound}
 use Rattle.tail.specs.declared.TailBound.the-variants.{Open, At}
 use Rattle.tail.specs.declared.Hill.{Hill}
@@ -24,7 +24,7 @@ use Rattle.tail.specs.declared.Tail.{Tail}
 use Rattle.posterior.specs.Side.{risesOf, steepOf, outwardOf}
 use Rattle.posterior.specs.Integrand.{atOf, noPoint}
 use Rattle.posterior.specs.Number.{nothingOf as noNumber}
-use Rattle.posterior.specs.Range.{nothingOf as noRange}
+use Rattle.posterior.specs.Flanks.{nothingOf as noFlanks}
 use Rattle.tail.specs.Tail.{tailBoundOf, withinOf, closedOf, bothClosedOf, boundAfterOf, walk, tailFrom, walkOutOf, span, boundedOf, goal, tailGoalOf, tail-share, noReach}
 
 -- the bound after an evaluation: a new one where the density rises toward the mode, else the one before
@@ -76,21 +76,21 @@ module _ (l r : TailBound) (goal : Float) (t : Bool) (e : t ≡ closedOf l goal)
   left-not-closed f = rw (← e, f)
 
 -- both sides
-abbrev pub afterRight : Hill → Tail → Tail → Range
+abbrev pub afterRight : Hill → Tail → Tail → Flanks
 afterRight h l r =
-    cond (isRefused (r .end)) (noRange (r .end) (r .p))
-    (cond (bothClosedOf (l .bound) (r .bound) (h .goal)) (record { end = Answered; p = r .p; left = l .z; right = r .z }) (noRange (Domain 3) (r .p)))
+    cond (isRefused (r .end)) (noFlanks (r .end) (r .p))
+    (cond (bothClosedOf (l .bound) (r .bound) (h .goal)) (record { end = Answered; p = r .p; left = l .z; right = r .z }) (noFlanks (Domain 3) (r .p)))
 
-range-is : (p : Posterior) (h : Hill) → boundedOf p h ≡ (let l = walkOutOf p h Left in cond (isRefused (l .end)) (noRange (l .end) (l .p)) (afterRight h l (walkOutOf (l .p) h Right)))
+bounded-is : (p : Posterior) (h : Hill) → boundedOf p h ≡ (let l = walkOutOf p h Left in cond (isRefused (l .end)) (noFlanks (l .end) (l .p)) (afterRight h l (walkOutOf (l .p) h Right)))
 unfolding boundedOf span walkOutOf tailFrom
-range-is p h = rw (past noReach, past noReach, branch, gives, gives-up)
+bounded-is p h = rw (past noReach, past noReach, branch, gives, gives-up)
 
 module _ (p : Posterior) (h : Hill) (l : Tail) (e : l ≡ walkOutOf p h Left) where
-  pub range-stops : (x : Range) → isRefused (l .end) ≡ true → x ≡ noRange (l .end) (l .p) → x ≡ boundedOf p h
-  range-stops x t u = rw (range-is, ← e, t) u
+  pub bounded-stops : (x : Flanks) → isRefused (l .end) ≡ true → x ≡ noFlanks (l .end) (l .p) → x ≡ boundedOf p h
+  bounded-stops x t u = rw (bounded-is, ← e, t) u
 
-  pub range-goes : (x : Range) (r : Tail) → isRefused (l .end) ≡ false → r ≡ walkOutOf (l .p) h Right → x ≡ afterRight h l r → x ≡ boundedOf p h
-  range-goes x r t f u = rw (range-is, ← e, t, ← f) u
+  pub bounded-goes : (x : Flanks) (r : Tail) → isRefused (l .end) ≡ false → r ≡ walkOutOf (l .p) h Right → x ≡ afterRight h l r → x ≡ boundedOf p h
+  bounded-goes x r t f u = rw (bounded-is, ← e, t, ← f) u
 
 -- the goal
 goal-is : (p : Posterior) (mode log delta : Float) → tailGoalOf p mode log delta ≡ (let l = atOf p (mode ⊖ delta) in let r = atOf (l .p) (mode ⊕ delta) in cond (isRefused (l .end)) (noNumber (l .end) (l .p)) (cond (isRefused (r .end)) (noNumber (r .end) (r .p)) (record { end = Answered; p = r .p; value = tail-share ⊗ (two· ⊗ delta ⊗ expOf (minOf (l .v .log) (r .v .log) ⊖ log)) })))

@@ -8,13 +8,13 @@ use Rattle.num.specs.Helpers.{absOf, isFiniteOf, minOf, powiOf, sumOf}
 use Rattle.elementary.specs.Exp.{expOf}
 use Rattle.work.specs.declared.Ending.{Ending}
 use Rattle.work.specs.Ended.{domain}
-use Rattle.work.specs.Work.{Work, ret, stop, eval, _>>=_, told}
+use Rattle.work.specs.Work.{Work, ret, stop, eval, told, _>>=_}
 use Rattle.posterior.specs.declared.side.Side.{Side}
 use Rattle.posterior.specs.declared.side.Side.the-variants.{Left, Right}
 use Rattle.posterior.specs.declared.integrand.Posterior.{Posterior}
 use Rattle.posterior.specs.declared.integrand.Point.{Point}
 use Rattle.posterior.specs.declared.number.Number.{Number}
-use Rattle.posterior.specs.declared.range.Range.{Range}
+use Rattle.posterior.specs.declared.flanks.Flanks.{Flanks}
 use Rattle.tail.specs.declared.TailBound.{TailBound}
 use Rattle.tail.specs.declared.TailBound.the-variants.{Open, At}
 use Rattle.tail.specs.declared.Hill.{Hill}
@@ -22,7 +22,7 @@ use Rattle.tail.specs.declared.Tail.{Tail}
 use Rattle.posterior.specs.Side.{risesOf, steepOf, outwardOf}
 use Rattle.posterior.specs.Integrand.{Eval, here, counted, from}
 use Rattle.posterior.specs.Number.{toNumber}
-use Rattle.posterior.specs.Range.{Ends, noEnds, toRange}
+use Rattle.posterior.specs.Flanks.{Ends, noEnds, toFlanks}
 
 -- one term of the polynomial: coefficient u^i sd^k / slope^j
 unfoldable pub termOf : Float → Float → ℕ → Float → ℕ → Float → ℕ → Float
@@ -112,5 +112,5 @@ tailFrom p h side n j z b = told (toTail p) noReach (from p (walk (here p) h sid
 unfoldable pub walkOutOf : Posterior → Hill → Side → Tail
 walkOutOf p h side = tailFrom p h side 30 0 (outwardOf side (h .mode) (h .delta)) Open
 
-unfoldable pub boundedOf : Posterior → Hill → Range
-boundedOf p h = told (toRange p) noEnds (from p (span (here p) h))
+unfoldable pub boundedOf : Posterior → Hill → Flanks
+boundedOf p h = told (toFlanks p) noEnds (from p (span (here p) h))

@@ -1,7 +1,7 @@
 // The tails: how much mass beyond a point there can be, and steps outward until that is within a goal.
+use posterior::flanks::Flanks;
 use posterior::integrand::Posterior;
 use posterior::number::Number;
-use posterior::range::Range;
 use posterior::side::Side;
 use work::Ending;
 ghost use mathlib.Core.Path.{_≡_};
@@ -131,32 +131,32 @@ fn walk_out(p: Posterior, h: Hill, side: Side) -> Tail
     }
 }
 
-pub fn bounded(p: Posterior, h: Hill) -> Range
+pub fn bounded(p: Posterior, h: Hill) -> Flanks
     ensures { λ r. ⌜ r ≡ boundedOf p h ⌝ }
 {
     let l = walk_out(p, h, Side::Left);
     let end = l.end;
     let q = l.p;
     if work::refused(end) {
-        return posterior::range::nothing(end, q);
+        return posterior::flanks::nothing(end, q);
     }
     let r = walk_out(q, h, Side::Right);
     let end = r.end;
     let q = r.p;
     if work::refused(end) {
-        return posterior::range::nothing(end, q);
+        return posterior::flanks::nothing(end, q);
     }
     let lb = l.bound;
     let rb = r.bound;
     if both_closed(lb, rb, h.goal) {
-        return Range {
+        return Flanks {
             end: Ending::Answered,
             p: q,
             left: l.z,
             right: r.z,
         };
     }
-    posterior::range::nothing(Ending::Domain(3), q)
+    posterior::flanks::nothing(Ending::Domain(3), q)
 }
 
 pub fn tail_goal(p: Posterior, mode: f64, log: f64, delta: f64) -> Number

@@ -1,15 +1,16 @@
 -- What stands at a place of a text, by the byte there: the steps of each reading.
-use mathlib.Core.Path.{_≡_, refl, sym, subst, _∙_}
+use mathlib.Core.Path.{_≡_, refl, sym, _∙_}
 use mathlib.Core.Bool.{Bool, true, false, cond, _&&_, _||_, not}
 use mathlib.Core.List.{List, [], _∷_}
 use Prim.Native.Nat.{ℕ, suc, _+_, _-_, _*_, _^_, _≤_, _<_}
 use native.Mathlib.Omega.{arith}
 use native.Mathlib.Numerals.{add-one}
 use native.Mathlib.Nat.{pow-suc, pow-le-pow-right, lt-of-lt-of-le}
-use lib.Dec.{T, leb, lit<}
+use lib.Dec.{leb, lit<}
 use lib.ListN.{length, getD, drop, drop-of-length-le}
 use lib.Seq.{drop-cons}
 use borrow.Author.Tests.{eq-eqb, ne-eqb, lt-ltb, le-ltb, le-leb, lt-leb, leb-true, not-true, not-false}
+use Rattle.num.specs.Both.{and-right}
 use Rattle.template.specs.Field.{isDigitOf, isHexOf, hexValueOf, found, departs, readHex, readMore, readCount, readByte}
 use Rattle.template.specs.Decimal.{readValue}
 use Rattle.template.specs.Read.{readField}
@@ -86,10 +87,6 @@ or-false : (t : Bool) → (t || false) ≡ true → t ≡ true
 or-false true h = refl
 or-false false h = h
 
-and-second : (t u : Bool) → (t && u) ≡ true → u ≡ true
-and-second true u h = h
-and-second false u h = absurd (subst T (sym h) tt)
-
 letter-small : (c : ℕ) → leb 97 c ≡ true → isHexOf c ≡ true → c - 87 ≤ 15
 letter-small c e h =
     let low : 97 ≤ c = leb-true 97 c e in
@@ -97,7 +94,7 @@ letter-small c e h =
     omega (arith, leb-true c 102 high)
 
 digit-small : (c : ℕ) → leb 97 c ≡ false → isHexOf c ≡ true → c - 48 ≤ 15
-digit-small c e h = omega (arith, leb-true c 57 (and-second (leb 48 c) (leb c 57) (or-false (leb 48 c && leb c 57) (rw e at h))))
+digit-small c e h = omega (arith, leb-true c 57 (and-right (leb 48 c) (leb c 57) (or-false (leb 48 c && leb c 57) (rw e at h))))
 
 pub hex-small : (c : ℕ) → isHexOf c ≡ true → hexValueOf c ≤ 15
 hex-small c h = by (leb 97 c) refl where

@@ -49,7 +49,7 @@ unfolding feeds
 decimal-none true a b e f = rw (feeds-append a (46 ∷ b), e, f) refl
 decimal-none false a b e f = rw (feeds-append a (46 ∷ b), e, f) refl
 
-number-none : (v : ℕ) (q : List ℕ) → Spelling v q → feeds q ≡ 0
+pub number-none : (v : ℕ) (q : List ℕ) → Spelling v q → feeds q ≡ 0
 number-none v q (in-hex h e) = rw e (digits-none 16 16 v)
 number-none v q (in-decimal minus d a k x p n i e) = rw e (decimal-none minus (digits 10 a (d / 10 ^ k)) (digits 10 k d) (digits-none 10 a (d / 10 ^ k)) (digits-none 10 k d))
 

@@ -10,6 +10,7 @@ use lib.Ieee.{Float, nan, inf, fin, binary64, isNan, nanBits}
 use lib.Ieee.Bits.{nanBits-is, nanBits-above}
 use borrow.Author.Tests.{lt-ltb, le-ltb, not-true, not-false}
 use Rattle.num.specs.F64.{bits}
+use Rattle.read.specs.Long.{length-fill}
 use Rattle.request.specs.declared.Request.{Request}
 use Rattle.request.specs.Request.{requestOf}
 use Rattle.fit.specs.Fit.{fitOf}
@@ -20,7 +21,7 @@ use Rattle.read.specs.Filled.{request-filled}
 use Rattle.print.specs.Answer.{refusalText, fitText}
 use Rattle.text.specs.Answer.{number, numbers, requestIn, answerTo, answerText}
 use Rattle.text.specs.Answered.{many-answer}
-use Rattle.text.specs.Kept.{kept-litters, length-puts}
+use Rattle.text.specs.Kept.{kept-litters}
 
 -- ---- a number of its bits
 
@@ -66,13 +67,9 @@ module _ (b buf : List ℕ) (a : Asking) where
       let w : buf ≡ putLitters b 0 ls = u ∙ request-filled b text vs ls t in
       rw (v, w, e, kept-litters b 0 ls l (omega arith))
 
-  length-of : (text : List ℕ) (q : Asked) → readRequest text ≡ q → a ≡ askingOf 0 q → buf ≡ fillRequest b text → a .fits ≡ true → length buf ≡ length b
-  length-of text (form k) t s u f = absurd (false≢true (sym (ap (λ (x : Asking). x .fits) s) ∙ f))
-  length-of text (asked vs ls) t s u f = rw (u ∙ request-filled b text vs ls t) (length-puts b 0 ls)
-
   module _ (text : List ℕ) (s : (a ≡ askingOf 0 (readRequest text)) × (buf ≡ fillRequest b text)) where
-    pub buffer-length : not (a .fits) ≡ false → length buf ≡ length b
-    buffer-length f = length-of text (readRequest text) refl (s .0) (s .1) (not-false (a .fits) f)
+    pub buffer-length : length buf ≡ length b
+    buffer-length = rw (s .1) (length-fill b text)
 
     pub answer-form : not (a .fits) ≡ true → refusalText 4 0 (a .line) ≡ answerText text
     unfolding answerText

@@ -1,23 +1,14 @@
 -- The litters in the buffer are those that the core is handed.
-use mathlib.Core.Path.{_≡_, refl, _∙_}
-use mathlib.Core.Bool.{Bool, true, false, cond}
+use mathlib.Core.Path.{_≡_, _∙_}
 use mathlib.Core.List.{List, [], _∷_, _++_, append-assoc, append-nil}
 use Prim.Native.Nat.{ℕ, suc, _+_, _*_, _≤_, _<_}
 use native.Mathlib.Omega.{arith}
-use lib.Dec.{ltb}
 use lib.ListN.{length, getD, take}
 use borrow.Author.Tests.{lt-ltb}
-use Rattle.litters.specs.Table.{rowIn}
-use Rattle.litters.specs.Kept.{row-length, row-taken}
+use Rattle.read.specs.Long.{length-put}
+use Rattle.litters.specs.Kept.{row-taken}
 use Rattle.read.specs.Rows.{putLitter, putLitters}
 use Rattle.text.specs.Answer.{littersOf}
-
-length-put : (b l : List ℕ) (n : ℕ) → length (putLitter b n l) ≡ length b
-unfolding putLitter
-length-put b l n = by (ltb n 128) where
-  by : (t : Bool) → length (cond t (rowIn b n (getD l 1 0) (getD l 2 0) (getD l 0 0)) b) ≡ length b
-  by true = row-length b n (getD l 1 0) (getD l 2 0) (getD l 0 0)
-  by false = refl
 
 put-three : (b l : List ℕ) (n : ℕ) → length b ≡ 384 → n < 128 → take (3 * (n + 1)) (putLitter b n l) ≡ take (3 * n) b ++ (getD l 1 0 ∷ getD l 2 0 ∷ getD l 0 0 ∷ [])
 unfolding putLitter
@@ -31,8 +22,3 @@ kept-litters b n (l ∷ ls) s h =
     let m : n < 128 = omega arith in
     let ih = kept-litters (putLitter b n l) (n + 1) ls (length-put b l n ∙ s) (omega arith) in
     rw e (ih ∙ rw (put-three b l n s m) (append-assoc (take (3 * n) b) (getD l 1 0 ∷ getD l 2 0 ∷ getD l 0 0 ∷ []) (littersOf ls)))
-
-pub length-puts : (b : List ℕ) (n : ℕ) (ls : List (List ℕ)) → length (putLitters b n ls) ≡ length b
-unfolding putLitters
-length-puts b n [] = refl
-length-puts b n (l ∷ ls) = length-puts (putLitter b n l) (n + 1) ls ∙ length-put b l n

@@ -1,6 +1,6 @@
 -- A claim is accepted exactly if five facts hold; the last is the test by which a fit has converged. All else is a verdict, a count and zeros.
-use mathlib.Core.Path.{_≡_, refl, ap, sym, _∙_}
-use mathlib.Core.Bool.{Bool, true, false, cond, _&&_}
+use mathlib.Core.Path.{_≡_, refl, ap}
+use mathlib.Core.Bool.{Bool, true, false, _&&_}
 use mathlib.Core.List.{List}
 use mathlib.Core.Logic.{_↔_}
 use Prim.Native.Nat.{ℕ}
@@ -21,7 +21,7 @@ use Rattle.request.specs.Request.{admittedOf, validLimit, lowOf, highOf}
 use Rattle.trial.specs.Judged.{normAtOf}
 use Rattle.claim.specs.declared.Claim.{Claim}
 use Rattle.claim.specs.declared.Verdict.{Verdict}
-use Rattle.claim.specs.declared.Verdict.the-variants.{Accepted, InvalidInput, Domain, OutsideBox, LikelihoodDiffers, NormAbove}
+use Rattle.claim.specs.declared.Verdict.the-variants.{Accepted, InvalidInput, Domain}
 use Rattle.claim.specs.declared.Vetted.{Vetted}
 use Rattle.claim.specs.Claim.{numberOf, pointIn, inBoxOf, sameBitsOf, refusalOf, acceptedOf, judgedOf}
 use Rattle.vet.specs.Vet.{placedOf, vetOf}

@@ -1,7 +1,7 @@
 -- A fit of ours that converged is accepted, with its own norm: what it reports lies in its box, and the objective there gives what is reported.
 -- And past the box a refusal of the objective is a Domain, with its reason.
 use mathlib.Core.Path.{_≡_, refl, ap, sym, _∙_}
-use mathlib.Core.Bool.{Bool, true, false, _&&_}
+use mathlib.Core.Bool.{true, _&&_}
 use mathlib.Core.List.{List, [], _∷_}
 use Prim.Native.Nat.{ℕ, _≤_}
 use native.Mathlib.Omega.{arith}
@@ -9,8 +9,8 @@ use borrow.Author.Tests.{eq-eqb}
 use lib.Dec.{lit<}
 use lib.ListN.{length, getD}
 use lib.Ieee.{Float, nan, le}
+use Rattle.num.specs.Both.{and-left, and-right}
 use Rattle.num.specs.F64.{bitsOf}
-use Rattle.finite.specs.Finite.{and-first, and-second}
 use Rattle.order.specs.Boxes.{four, Inside}
 use Rattle.work.specs.declared.Ending.{Ending}
 use Rattle.work.specs.declared.Ending.the-variants.{Answered, InvalidInput, WorkBudget}
@@ -45,7 +45,7 @@ use Rattle.fit.specs.Stops.{answered-stops}
 use Rattle.fit.specs.Restart.{reportedPoint, Gives, fit-restarts}
 use Rattle.fit.specs.Inside.{fit-asks}
 use Rattle.claim.specs.declared.Claim.{Claim}
-use Rattle.claim.specs.declared.Verdict.the-variants.{Accepted, Domain}
+use Rattle.claim.specs.declared.Verdict.the-variants.{Domain}
 use Rattle.claim.specs.Claim.{reasonOf, pointIn, inBoxOf, sameBitsOf, acceptedOf, judgedOf}
 use Rattle.vet.specs.Vet.{placedOf, vetOf}
 use Rattle.vet.specs.Accepted as accepted
@@ -60,17 +60,17 @@ inside-boxed lo hi x s =
 boxed-inside : (lo hi x : List Float) → inBoxOf x lo hi ≡ true → Inside lo hi x
 unfolding inBoxOf
 boxed-inside lo hi x h =
-    let first = and-first (le (getD lo 0 nan) (getD x 0 nan) && le (getD x 0 nan) (getD hi 0 nan)) _ h in
-    let h1 = and-second (le (getD lo 0 nan) (getD x 0 nan) && le (getD x 0 nan) (getD hi 0 nan)) _ h in
-    let second = and-first (le (getD lo 1 nan) (getD x 1 nan) && le (getD x 1 nan) (getD hi 1 nan)) _ h1 in
-    let h2 = and-second (le (getD lo 1 nan) (getD x 1 nan) && le (getD x 1 nan) (getD hi 1 nan)) _ h1 in
-    let third = and-first (le (getD lo 2 nan) (getD x 2 nan) && le (getD x 2 nan) (getD hi 2 nan)) _ h2 in
-    let fourth = and-second (le (getD lo 2 nan) (getD x 2 nan) && le (getD x 2 nan) (getD hi 2 nan)) _ h2 in
+    let first = and-left (le (getD lo 0 nan) (getD x 0 nan) && le (getD x 0 nan) (getD hi 0 nan)) _ h in
+    let h1 = and-right (le (getD lo 0 nan) (getD x 0 nan) && le (getD x 0 nan) (getD hi 0 nan)) _ h in
+    let second = and-left (le (getD lo 1 nan) (getD x 1 nan) && le (getD x 1 nan) (getD hi 1 nan)) _ h1 in
+    let h2 = and-right (le (getD lo 1 nan) (getD x 1 nan) && le (getD x 1 nan) (getD hi 1 nan)) _ h1 in
+    let third = and-left (le (getD lo 2 nan) (getD x 2 nan) && le (getD x 2 nan) (getD hi 2 nan)) _ h2 in
+    let fourth = and-right (le (getD lo 2 nan) (getD x 2 nan) && le (getD x 2 nan) (getD hi 2 nan)) _ h2 in
     record {
-      above = four (λ i. le (getD lo i nan) (getD x i nan) ≡ true) (and-first _ _ first) (and-first _ _ second) (and-first _ _ third) (and-first _ _ fourth);
+      above = four (λ i. le (getD lo i nan) (getD x i nan) ≡ true) (and-left _ _ first) (and-left _ _ second) (and-left _ _ third) (and-left _ _ fourth);
       below = four (λ i. le (getD x i nan) (getD hi i nan) ≡ true)
-          (and-second (le (getD lo 0 nan) (getD x 0 nan)) _ first) (and-second (le (getD lo 1 nan) (getD x 1 nan)) _ second)
-          (and-second (le (getD lo 2 nan) (getD x 2 nan)) _ third) (and-second (le (getD lo 3 nan) (getD x 3 nan)) _ fourth);
+          (and-right (le (getD lo 0 nan) (getD x 0 nan)) _ first) (and-right (le (getD lo 1 nan) (getD x 1 nan)) _ second)
+          (and-right (le (getD lo 2 nan) (getD x 2 nan)) _ third) (and-right (le (getD lo 3 nan) (getD x 3 nan)) _ fourth);
     }
 
 same-self : (x : Float) → sameBitsOf x x ≡ true
@@ -133,7 +133,7 @@ module _ (r : Request) (ls : List ℕ) (c : Claim) where
   -- ---- the objective's checks pass wherever the box's test does
   admitted : checked r ls ≡ true → inBoxOf (pointIn c) (lowOf r) (highOf r) ≡ true → (validPointOf (pointIn c) && validLittersOf ls) ≡ true
   admitted p i =
-      let h = and-second (validLimit (r .quadrature .0)) (admittedOf r ls) p in
+      let h = and-right (validLimit (r .quadrature .0)) (admittedOf r ls) p in
       rw (inside-valid r ls h (pointIn c) (boxed-inside (lowOf r) (highOf r) (pointIn c) i), admitted-litters r ls h)
 
   never-invalid : (validPointOf (pointIn c) && validLittersOf ls) ≡ true → there r ls c .end ≡ InvalidInput → ⊥

@@ -1,6 +1,6 @@
 -- A request that fails a check is refused before its claim is looked at; so are litters that are not valid, whatever else the request holds.
 use mathlib.Core.Path.{_≡_}
-use mathlib.Core.Bool.{true, false}
+use mathlib.Core.Bool.{false}
 use mathlib.Core.List.{List}
 use Prim.Native.Nat.{ℕ, _<_}
 use Rattle.work.specs.Metered.{split}

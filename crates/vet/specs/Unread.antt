@@ -1,6 +1,6 @@
 -- Past its check no limit of the request is read: two requests that differ in their limits alone, and pass their checks, are vetted alike.
 use mathlib.Core.Path.{_≡_, refl}
-use mathlib.Core.Bool.{true, cond}
+use mathlib.Core.Bool.{true}
 use mathlib.Core.List.{List}
 use Prim.Native.Nat.{ℕ}
 use Rattle.request.specs.declared.Request.{Request}

@@ -3,7 +3,6 @@ use mathlib.Core.Path.{_≡_, refl, sym, ap, _∙_}
 use mathlib.Core.Bool.{true, false, not, true≢false, false≢true}
 use mathlib.Core.List.{List, [], _∷_}
 use Prim.Native.Nat.{ℕ, _+_, _*_, _≤_, _<_}
-use native.Mathlib.Nat.{zero-add}
 use native.Mathlib.Omega.{arith}
 use lib.ListN.{length, take}
 use lib.Ieee.{Float}
@@ -13,22 +12,15 @@ use Rattle.template.specs.Template.{ascii, render}
 use Rattle.read.specs.Rows.{putLitters}
 use Rattle.print.specs.Answer.{refusalText}
 use Rattle.text.specs.Answer.{requestIn}
-use Rattle.text.specs.Kept.{kept-litters, length-puts}
+use Rattle.text.specs.Kept.{kept-litters}
 use Rattle.claim.specs.declared.Vetted.{Vetted}
 use Rattle.claim.specs.Claim.{numberOf, reasonOf}
 use Rattle.vet.specs.Vet.{vetOf}
 use Rattle.claimed.specs.declared.Claiming.{Claiming}
 use Rattle.claimed.specs.Claimed.{Claims, claims, departed, readClaimed}
-use Rattle.claimed.specs.Claiming.{five, claimingOf, fillClaimed, claimed-filled}
+use Rattle.claimed.specs.Claiming.{five, claimingOf, fillClaimed, claimed-filled, length-claimed}
 use Rattle.vet_text.specs.Answer.{claimIn, acceptedText, vettedText, vetTo, vetText}
 use Rattle.vet_text.specs.Answered.{many-answer}
-
--- ---- what was put in by another name, and at the start
-pub by-whole : (bs ds : List ℕ) (r : ℕ) → r ≡ length ds → ds ≡ bs → r ≡ length bs
-by-whole bs ds r p e = rw (← e) p
-
-pub from-start : (bs ds : List ℕ) (r : ℕ) → r ≡ 0 + length ds → ds ≡ bs → r ≡ length bs
-from-start bs ds r p e = rw (← e) (rw zero-add at p)
 
 pub accepted-is : (count p q : ℕ) (nll norm : Float) → p ≡ bitsOf nll → q ≡ bitsOf norm → render (ascii "accepted # % %\n") (count ∷ p ∷ q ∷ []) ≡ acceptedText count (bitsOf nll) (bitsOf norm)
 unfolding acceptedText
@@ -71,13 +63,9 @@ module _ (b buf : List ℕ) (a : Claiming) where
       let w : buf ≡ putLitters b 0 ls = u ∙ claimed-filled b text vs ls us t in
       rw (v, c, w, e, kept-litters b 0 ls l (omega arith), claim-places us)
 
-  length-of : (text : List ℕ) (q : Claims) → readClaimed text ≡ q → a ≡ claimingOf q → buf ≡ fillClaimed b text → a .fits ≡ true → length buf ≡ length b
-  length-of text (departed k) t s u f = absurd (false≢true (sym (ap (λ (x : Claiming). x .fits) s) ∙ f))
-  length-of text (claims vs ls us) t s u f = rw (u ∙ claimed-filled b text vs ls us t) (length-puts b 0 ls)
-
   module _ (text : List ℕ) (s : (a ≡ claimingOf (readClaimed text)) × (buf ≡ fillClaimed b text)) where
-    pub buffer-length : not (a .fits) ≡ false → length buf ≡ length b
-    buffer-length f = length-of text (readClaimed text) refl (s .0) (s .1) (not-false (a .fits) f)
+    pub buffer-length : length buf ≡ length b
+    buffer-length = rw (s .1) (length-claimed b text)
 
     pub answer-form : not (a .fits) ≡ true → refusalText 4 0 (a .line) ≡ vetText text
     unfolding vetText

@@ -1,8 +1,8 @@
 -- The test that is named for a descent's end is the one by which the definition took that branch: of every answer, whatever the values were.
 use mathlib.Core.Path.{_≡_, refl}
-use mathlib.Core.Bool.{Bool, true, false, cond}
+use mathlib.Core.Bool.{true, false}
 use mathlib.Core.List.{List, [], _∷_}
-use Prim.Native.Nat.{ℕ, zero, suc, _+_, _≤_, _<_}
+use Prim.Native.Nat.{ℕ, zero, suc, _+_, _<_}
 use native.Mathlib.Omega.{arith}
 use borrow.Author.Tests.{le-leb}
 use lib.Dec.{leb}
@@ -11,16 +11,14 @@ use Rattle.num.specs.F64.{zero·, half·, one·, _⊗_}
 use Rattle.work.specs.Work.{Work}
 use Rattle.work.specs.Metered.{split}
 use Rattle.work.specs.Given.{Always, holds, hears, tested, passed}
-use Rattle.descent.specs.declared.Status.the-variants.{Converged, EvaluationLimit, IterationLimit, LineSearchFailed}
 use Rattle.descent.specs.declared.Trial.{Trial}
 use Rattle.descent.specs.declared.Trial.the-variants.{CutOff}
 use Rattle.descent.specs.Descent.{Problem, Asked, Step, to, nowhere, Descended, decreases, idle, idleTrial, accepts, acceptedTrial, try, orElse, search, ended, failed, descend, descent}
-use Rattle.trial.specs.declared.watch.Since.{Since}
 use Rattle.trial.specs.declared.watch.Since.the-variants.{Arrived, Missed}
 use Rattle.trial.specs.Watch.{byNewestOf, sinceIn}
 use Rattle.why.specs.declared.Test.{Test}
 use Rattle.why.specs.declared.Test.the-variants.{Norm, Evaluations, Iterations, Halvings, Spent}
-use Rattle.why.specs.Why.{testIn, testOf}
+use Rattle.why.specs.Why.{testOf}
 
 -- the newest n trials took no step, and none is cut off; before them a step was taken, or there is no trial
 pub data Misses : ℕ → List Trial → Type 0 where

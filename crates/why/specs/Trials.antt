@@ -1,27 +1,26 @@
 -- The trials of any descent: no more than 48 for each step that it may take, the refused one with them; and where a candidate that has not moved never leads downhill,
 -- none is refused for not having moved.
 use mathlib.Core.Path.{_≡_, refl, sym, _∙_}
-use mathlib.Core.Bool.{Bool, true, false, _||_, cond}
+use mathlib.Core.Bool.{Bool, true, false}
 use mathlib.Core.List.{List, [], _∷_}
 use Prim.Native.Nat.{ℕ, zero, suc, _+_, _*_, _≤_, zero-le}
 use native.Mathlib.Omega.{arith}
 use lib.Dec.{leb}
 use lib.ListN.{length}
-use lib.Ieee.{Float, le}
-use Rattle.num.specs.F64.{zero·, half·, one·, _⊗_}
+use lib.Ieee.{le}
+use Rattle.num.specs.Both.{or-other}
+use Rattle.num.specs.F64.{zero·}
+use Rattle.work.specs.Impossible.{impossible}
 use Rattle.work.specs.Ended.{Ended, done, stopped, short}
-use Rattle.work.specs.Work.{Work, ask, metered}
+use Rattle.work.specs.Work.{Work, metered}
 use Rattle.work.specs.Metered.{split}
 use Rattle.work.specs.Given.{Always, of-metered}
 use Rattle.work.specs.Asks.{Asks, gives, asks, tested, passed}
-use Rattle.work.specs.Through.{Open, none, refused, Driven, heard, driven}
+use Rattle.work.specs.Through.{none, refused, Driven, heard, driven}
 use Rattle.descent.specs.declared.Trial.{Trial}
 use Rattle.descent.specs.declared.Trial.the-variants.{NotDownhill, NotMoved, TooLittle, ByDecrease, ByRounding, CutOff}
-use Rattle.descent.specs.Descent.{Problem, Asked, Step, to, nowhere, Tried, Descended, decreases, idle, idleTrial, accepts, acceptedTrial, missedTrial, try, orElse, search, descend, descent}
+use Rattle.descent.specs.Descent.{Problem, Asked, Step, to, nowhere, Descended, decreases, idle, idleTrial, accepts, acceptedTrial, try, orElse, search, descend, descent}
 use Rattle.descent.specs.Asking.{shareOf}
-
-impossible : {Z : Type 0} → _≡_ {A = ℕ} 0 1 → Z
-impossible z = absurd (omega arith)
 
 abbrev pub movedOf : Trial → Bool
 movedOf (NotDownhill s) = true
@@ -58,10 +57,6 @@ pub before-room : {n : ℕ} {X : Type 0} {q : Asked X} → Before n q → q .beg
 before-room start b = impossible (cc)
 before-room (trial {m = m} {ts = ts} h l) b = let k : length ts ≤ m = trials-length l in omega arith
 
-either-other : (a b : Bool) → (a || b) ≡ true → a ≡ false → b ≡ true
-either-other true b h n = cc
-either-other false b h n = h
-
 module _ {X O D : Type 0} (p : Problem X O D) (Q : X → O → Type 0) (I : X → Type 0) where
   -- every point that is asked for has I, and the trials before it are few and moved; so are those of the answer
   pub record Fit (q : Asked X) : Type 0 where
@@ -85,7 +80,7 @@ module _ {X O D : Type 0} (p : Problem X O D) (Q : X → O → Type 0) (I : X �
     idle-moved k h =
         let next = p .candidate x d (shareOf k) in
         split (le zero· (p .slope x v next)) (λ b. rw b)
-        (λ b. let z = sym (moves k (either-other (le zero· (p .slope x v next)) (p .still next x) h b)) ∙ b in impossible (cc))
+        (λ b. let z = sym (moves k (or-other (le zero· (p .slope x v next)) (p .still next x) h b)) ∙ b in impossible (cc))
 
     accepted-moved : (next : X) (c : O) → movedOf (acceptedTrial p x v next c) ≡ true
     accepted-moved next c = split (decreases (p .nll v) (p .slope x v next) (p .nll c)) (λ b. rw b) (λ b. rw b)

@@ -1,6 +1,6 @@
 -- Why the n-th trial of a descent ended as it did, counted from 1, where the refused trial is the one after the last; and what stopped the descent.
 use mathlib.Core.Path.{_≡_, refl}
-use mathlib.Core.Bool.{Bool, true, false, _&&_, cond}
+use mathlib.Core.Bool.{_&&_, cond}
 use mathlib.Core.List.{List}
 use Prim.Native.Nat.{ℕ, _+_, _-_, _≤_}
 use native.Mathlib.Omega.{arith}
@@ -12,13 +12,12 @@ use Rattle.work.specs.Ended.{Ended, done, stopped, short, invalid, domain, endO
 use Rattle.work.specs.Metered.{split}
 use Rattle.descent.specs.declared.Status.{Status}
 use Rattle.descent.specs.declared.Status.the-variants.{NoStatus, Converged, EvaluationLimit, IterationLimit, LineSearchFailed}
-use Rattle.descent.specs.declared.Trial.{Trial}
 use Rattle.work.specs.Through.{Open, Driven}
 use Rattle.descent.specs.Descent.{Asked, Descended}
 use Rattle.value.specs.declared.Totals.{Totals}
 use Rattle.trial.specs.declared.watch.Since.{Since}
 use Rattle.trial.specs.declared.watch.Since.the-variants.{Arrived, Missed, Cut}
-use Rattle.trial.specs.Watch.{watchOf, trialAt, watch-left, watch-kept, sinceIn, watch-since}
+use Rattle.trial.specs.Watch.{trialAt, watch-left, watch-kept, sinceIn, watch-since}
 use Rattle.course.specs.declared.Course.{Course}
 use Rattle.course.specs.Course.{trialIn, trialsIn, shown}
 use Rattle.why.specs.declared.Why.{Why}

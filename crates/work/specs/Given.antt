@@ -2,7 +2,7 @@
 use mathlib.Core.Path.{_≡_, refl}
 use mathlib.Core.Bool.{Bool, true, false, cond}
 use Prim.Native.Nat.{ℕ, zero, suc, _-_}
-use native.Mathlib.Omega.{arith}
+use Rattle.work.specs.Impossible.{impossible}
 use Rattle.work.specs.declared.Ending.the-variants.{Answered}
 use Rattle.work.specs.Ended.{Why, done, endOf, valueOr, answered-value}
 use Rattle.work.specs.Work.{Work, ret, stop, ask, _>>=_, run, runL, metered}
@@ -20,9 +20,6 @@ Always P w = Given (λ e v. Unit {0}) P w
 -- where each value is the one that `at` gives
 abbrev pub Truly : {E X A : Type 0} → (E → X) → (A → Type 0) → Work E X A → Type 0
 Truly at P w = Given (λ e v. v ≡ at e) P w
-
-impossible : {Z : Type 0} → _≡_ {A = ℕ} 0 1 → Z
-impossible z = absurd (omega arith)
 
 module _ {E X A : Type 0} {G : E → X → Type 0} {P : A → Type 0} where
   pub weaker : {Q : A → Type 0} {w : Work E X A} → ((a : A) → P a → Q a) → Given G P w → Given G Q w

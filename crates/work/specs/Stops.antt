@@ -3,6 +3,7 @@ use mathlib.Core.Path.{_≡_, refl}
 use mathlib.Core.Bool.{Bool, true, false, cond}
 use Prim.Native.Nat.{ℕ, zero, suc, _-_, _≤_}
 use native.Mathlib.Omega.{arith}
+use Rattle.work.specs.Impossible.{impossible}
 use Rattle.work.specs.declared.Ending.the-variants.{InvalidInput, Domain, WorkBudget}
 use Rattle.work.specs.Ended.{Why, invalid, domain, Ended, done, stopped, short, endOf}
 use Rattle.work.specs.Work.{Work, ret, stop, ask, _>>=_, run, runL, metered}
@@ -12,9 +13,6 @@ pub data Stops {E X A : Type 0} (P : Why → Type 0) : Work E X A → Type 0 whe
   answers : {a : A} → Stops P (ret a)
   refuses : {r : Why} → P r → Stops P (stop r)
   hears : {e : E} {k : X → Work E X A} → ((v : X) → Stops P (k v)) → Stops P (ask e k)
-
-impossible : {Z : Type 0} → _≡_ {A = ℕ} 0 1 → Z
-impossible z = absurd (omega arith)
 
 module _ {E X A : Type 0} {P : Why → Type 0} where
   pub others : {Q : Why → Type 0} {w : Work E X A} → ((r : Why) → P r → Q r) → Stops P w → Stops Q w

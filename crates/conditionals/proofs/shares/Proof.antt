@@ -1,12 +1,12 @@
 -- `shares` meets its contract: a loop that fills five arrays.
-use mathlib.Core.Path.{_≡_, refl}
+use mathlib.Core.Path.{refl}
 use Prim.Native.Nat.{_-_}
 use borrow.Author.Needs.{needs}
 use lib.ListN.{getD}
 use lib.Ieee.{nan}
 use Rattle.lanes.specs.Lanes.{values}
 use Rattle.lanes.specs.Filled.{turns, ends, Filling}
-use Rattle.conditionals.specs.Conditionals.{shareAt, sharesOf}
+use Rattle.conditionals.specs.Conditionals.{shareAt}
 use Rattle.conditionals.proofs.Laws.{share-log, share-moment, all-five}
 use Rattle.conditionals.proofs.shares.Statement.{statement}
 use Rattle.conditionals.proofs.shares.Tie as tie

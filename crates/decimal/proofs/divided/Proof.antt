@@ -8,6 +8,7 @@ use native.Mathlib.Omega.{arith}
 use borrow.Author.Needs.{needs}
 use lib.Dec.{T, leb, leb→le, nleb→lt}
 use lib.Pow.{pow-mono}
+use Rattle.root.specs.Pencil.{taken-at-most}
 use Rattle.decimal.proofs.divided.Statement.{statement}
 use Rattle.decimal.proofs.divided.Tie as tie
 
@@ -49,13 +50,6 @@ turn num den q rest n h s f o = go (leb den (2 * rest)) (leb→le den (2 * rest)
         let i = b tt in
         record { same = rw twice (omega (arith, o .same)); less = omega arith; few = omega arith; within = omega (arith, room num den q rest n h s f (o .less) (o .same)) }
 
-less : (n den : ℕ) → cond (leb den n) den 0 ≤ n
-less n den = go (leb den n) (leb→le den n)
-  where
-    go : (b : Bool) → (T b → den ≤ n) → cond b den 0 ≤ n
-    go true h = h tt
-    go false h = omega arith
-
 below : (c : tie.In-loop Inv-loop μ-loop) → c .before .loop .places < 107
 below c =
     let o = c .before .loop .inv in
@@ -85,7 +79,7 @@ divided-spec =
     (λ c. omega arith)
     (λ c κs. search needs)
     (λ c κs. search needs)
-    (λ c. rw (c .taken-of .ensures) (less _ _))
+    (λ c. rw (c .taken-of .ensures) (taken-at-most _ _))
     (λ c. omega arith)
     (λ c. omega (arith, c .before .digit-of .ensures .1))
     (λ c. omega (arith, below (c .before .before)))

@@ -1,7 +1,7 @@
 -- `explain::ending` meets its contract, by the test of its ending.
 use borrow.Author.Needs.{needs}
-use Rattle.render.specs.WrittenLaws.{by-text}
-use Rattle.explain.proofs.Laws.{by-whole, ending-refused, ending-tested}
+use Rattle.render.specs.WrittenLaws.{by-text, by-whole}
+use Rattle.explain.proofs.Laws.{ending-refused, ending-tested}
 use Rattle.explain.proofs.ending.Statement.{statement}
 use Rattle.explain.proofs.ending.Tie as tie
 

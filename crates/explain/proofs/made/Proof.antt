@@ -1,8 +1,8 @@
 -- `explain::made` meets its contract, each trial by its own text.
 use borrow.Author.Needs.{needs}
 use Rattle.render.specs.Width.{width}
-use Rattle.render.specs.WrittenLaws.{by-text}
-use Rattle.explain.proofs.Laws.{from-start, by-made}
+use Rattle.render.specs.WrittenLaws.{by-text, from-start}
+use Rattle.explain.proofs.Laws.{by-made}
 use Rattle.explain.proofs.made.Statement.{statement}
 use Rattle.explain.proofs.made.Tie as tie
 

@@ -1,8 +1,8 @@
 -- `explain::refused` meets its contract.
 use borrow.Author.Needs.{needs}
+use Rattle.render.specs.WrittenLaws.{from-start}
 use Rattle.render.specs.Width.{width}
 use Rattle.explain.specs.Lines.{refusedText}
-use Rattle.explain.proofs.Laws.{from-start}
 use Rattle.explain.proofs.refused.Statement.{statement}
 use Rattle.explain.proofs.refused.Tie as tie
 

@@ -1,8 +1,8 @@
 -- `explain::stopped` meets its contract.
 use borrow.Author.Needs.{needs}
+use Rattle.render.specs.WrittenLaws.{from-start}
 use Rattle.render.specs.Width.{width}
 use Rattle.explain.specs.Lines.{stoppedText}
-use Rattle.explain.proofs.Laws.{from-start}
 use Rattle.explain.proofs.stopped.Statement.{statement}
 use Rattle.explain.proofs.stopped.Tie as tie
 

@@ -1,8 +1,8 @@
 -- `explain::test` meets its contract, each test by its own text.
 use borrow.Author.Needs.{needs}
-use Rattle.render.specs.WrittenLaws.{by-text}
+use Rattle.render.specs.WrittenLaws.{by-text, from-start}
 use Rattle.explain.specs.Lines.{testText}
-use Rattle.explain.proofs.Laws.{from-start, by-test}
+use Rattle.explain.proofs.Laws.{by-test}
 use Rattle.explain.proofs.test.Statement.{statement}
 use Rattle.explain.proofs.test.Tie as tie
 

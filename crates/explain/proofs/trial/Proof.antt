@@ -1,7 +1,7 @@
 -- `explain::trial` meets its contract, by its cases.
 use borrow.Author.Needs.{needs}
-use Rattle.render.specs.WrittenLaws.{by-text}
-use Rattle.explain.proofs.Laws.{by-whole, by-why, by-refused}
+use Rattle.render.specs.WrittenLaws.{by-text, by-whole}
+use Rattle.explain.proofs.Laws.{by-why, by-refused}
 use Rattle.explain.proofs.trial.Statement.{statement}
 use Rattle.explain.proofs.trial.Tie as tie
 

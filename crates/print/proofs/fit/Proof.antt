@@ -1,7 +1,7 @@
 -- `print::fit` meets its contract, by the test of its ending.
 use borrow.Author.Needs.{needs}
-use Rattle.render.specs.WrittenLaws.{by-text}
-use Rattle.print.proofs.Laws.{by-whole, fit-refused, fit-reported}
+use Rattle.render.specs.WrittenLaws.{by-text, by-whole}
+use Rattle.print.proofs.Laws.{fit-refused, fit-reported}
 use Rattle.print.proofs.fit.Statement.{statement}
 use Rattle.print.proofs.fit.Tie as tie
 

@@ -1,8 +1,8 @@
 -- `print::refusal` meets its contract.
 use borrow.Author.Needs.{needs}
+use Rattle.render.specs.WrittenLaws.{from-start}
 use Rattle.render.specs.Width.{width}
 use Rattle.print.specs.Answer.{refusalText}
-use Rattle.print.proofs.Laws.{from-start}
 use Rattle.print.proofs.refusal.Statement.{statement}
 use Rattle.print.proofs.refusal.Tie as tie
 

@@ -1,5 +1,5 @@
 -- `tail::bounded` meets its contract, by a law for each call on the way, and the tests.
-use Rattle.tail.proofs.Laws.{range-stops, range-goes}
+use Rattle.tail.proofs.Laws.{bounded-stops, bounded-goes}
 use borrow.Author.Needs.{needs}
 use Rattle.num.specs.Choose.{choose}
 use Rattle.tail.proofs.bounded.Statement.{statement}
@@ -12,12 +12,12 @@ bounded-spec =
     (λ c κs. search needs)
     (λ c κs. search needs)
     (λ c κs. search needs)
-    (λ c. search (range-stops, choose))
+    (λ c. search (bounded-stops, choose))
     (λ c κs. search needs)
     (λ c κs. search needs)
     (λ c κs. search needs)
-    (λ c. search (range-goes, choose) fits 8000 depth 8)
+    (λ c. search (bounded-goes, choose) fits 8000 depth 8)
     (λ c κs. search needs)
-    (λ c. search (range-goes, choose) fits 8000 depth 8)
+    (λ c. search (bounded-goes, choose) fits 8000 depth 8)
     (λ c κs. search needs)
-    (λ c. search (range-goes, choose) fits 8000 depth 8))
+    (λ c. search (bounded-goes, choose) fits 8000 depth 8))

@@ -35,7 +35,7 @@ inside c =
     let t = c .before .before in
     let l = t .before .before in
     let q = l .before .before in
-    omega (arith, t .if3 .left, buffer-length _ _ (q .request .result) _ (q .request .ensures) (l .if2 .left))
+    omega (arith, t .if3 .left, buffer-length _ _ (q .request .result) _ (q .request .ensures))
 
 fits : tie.Need-returns-4
 fits c =

@@ -1,8 +1,8 @@
 -- `vet_text::accepted` meets its contract.
 use borrow.Author.Needs.{needs}
 use Rattle.render.specs.Width.{width}
-use Rattle.render.specs.WrittenLaws.{by-text}
-use Rattle.vet_text.proofs.Laws.{from-start, accepted-is}
+use Rattle.render.specs.WrittenLaws.{by-text, from-start}
+use Rattle.vet_text.proofs.Laws.{accepted-is}
 use Rattle.vet_text.proofs.accepted.Statement.{statement}
 use Rattle.vet_text.proofs.accepted.Tie as tie
 

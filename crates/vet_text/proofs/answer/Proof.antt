@@ -36,7 +36,7 @@ inside c =
     let t = c .before .before .before .before in
     let l = t .before .before in
     let q = l .before .before in
-    omega (arith, t .if3 .left, buffer-length _ _ (q .claimed .result) _ (q .claimed .ensures) (l .if2 .left))
+    omega (arith, t .if3 .left, buffer-length _ _ (q .claimed .result) _ (q .claimed .ensures))
 
 fits : tie.Need-returns-4
 fits c =

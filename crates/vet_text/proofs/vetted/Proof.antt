@@ -1,7 +1,7 @@
 -- `vet_text::vetted` meets its contract, by the verdict's number.
 use borrow.Author.Needs.{needs}
-use Rattle.render.specs.WrittenLaws.{by-text}
-use Rattle.vet_text.proofs.Laws.{by-whole, vetted-accepted, vetted-refused}
+use Rattle.render.specs.WrittenLaws.{by-text, by-whole}
+use Rattle.vet_text.proofs.Laws.{vetted-accepted, vetted-refused}
 use Rattle.vet_text.proofs.vetted.Statement.{statement}
 use Rattle.vet_text.proofs.vetted.Tie as tie
 

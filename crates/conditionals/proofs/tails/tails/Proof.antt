@@ -1,10 +1,10 @@
 -- `tails::tails` meets its contract: a loop that fills two arrays.
-use mathlib.Core.Path.{_≡_, refl}
+use mathlib.Core.Path.{refl}
 use Prim.Native.Nat.{_-_}
 use borrow.Author.Needs.{needs}
 use Rattle.lanes.specs.Lanes.{values}
 use Rattle.lanes.specs.Filled.{turns, ends, Filling}
-use Rattle.conditionals.specs.Tails.{tailsAt, tailsOf}
+use Rattle.conditionals.specs.Tails.{tailsAt}
 use Rattle.conditionals.proofs.TailsLaws.{the-log, the-mills, tails-both}
 use Rattle.conditionals.proofs.tails.tails.Statement.{statement}
 use Rattle.conditionals.proofs.tails.tails.Tie as tie

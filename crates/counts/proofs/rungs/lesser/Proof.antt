@@ -1,6 +1,5 @@
 -- `rungs::lesser` meets its contract, by its test.
 use native.Mathlib.Omega.{arith}
-use native.Mathlib.Nat.{le-refl}
 use Rattle.num.specs.Choose.{choose}
 use Rattle.counts.specs.Rungs.{lesserOf}
 use Rattle.counts.proofs.rungs.lesser.Statement.{statement}

@@ -1,5 +1,4 @@
 -- `request::valid_work` meets its contract, by its tests.
-use native.Mathlib.Omega.{arith}
 use borrow.Author.Needs.{needs}
 use Rattle.num.specs.Choose.{choose}
 use Rattle.exposure.specs.Request.{validWorkOf}

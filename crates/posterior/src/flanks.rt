@@ -2,19 +2,19 @@
 use crate::integrand::Posterior;
 use work::Ending;
 ghost use mathlib.Core.Path.{_≡_};
-ghost use Rattle.posterior.specs.Range.{nothingOf};
+ghost use Rattle.posterior.specs.Flanks.{nothingOf};
 
-pub struct Range {
+pub struct Flanks {
     pub end: Ending,
     pub p: Posterior,
     pub left: f64,
     pub right: f64,
 }
 
-pub fn nothing(end: Ending, p: Posterior) -> Range
+pub fn nothing(end: Ending, p: Posterior) -> Flanks
     ensures { λ r. ⌜ r ≡ nothingOf end p ⌝ }
 {
-    Range {
+    Flanks {
         end,
         p,
         left: 0.0,

@@ -4,7 +4,7 @@ use lib.Ieee.{Float}
 use Rattle.num.specs.F64.{zero·}
 use Rattle.work.specs.declared.Ending.{Ending}
 use Rattle.posterior.specs.declared.integrand.Posterior.{Posterior}
-use Rattle.posterior.specs.declared.range.Range.{Range}
+use Rattle.posterior.specs.declared.flanks.Flanks.{Flanks}
 use Rattle.posterior.specs.Integrand.{counted}
 
 pub record Ends : Type 0 where
@@ -14,11 +14,11 @@ pub record Ends : Type 0 where
 abbrev pub noEnds : Ends
 noEnds = record { left = zero·; right = zero· }
 
-abbrev pub ofEnds : Ending → Posterior → Ends → Range
+abbrev pub ofEnds : Ending → Posterior → Ends → Flanks
 ofEnds e p s = record { end = e; p = p; left = s .left; right = s .right }
 
-abbrev pub toRange : Posterior → Ending → ℕ → Ends → Range
-toRange p e n s = ofEnds e (counted p n) s
+abbrev pub toFlanks : Posterior → Ending → ℕ → Ends → Flanks
+toFlanks p e n s = ofEnds e (counted p n) s
 
-abbrev pub nothingOf : Ending → Posterior → Range
+abbrev pub nothingOf : Ending → Posterior → Flanks
 nothingOf e p = ofEnds e p noEnds
