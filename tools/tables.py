@@ -10,7 +10,7 @@ crate = here.parent / "crates" / "tables"
 
 
 class Table:
-    def __init__(self, module, name, index, fields, says, lanes=False):
+    def __init__(self, module, name, index, fields, says):
         self.module = module
         self.name = name  # in coefficients.txt
         self.index = index
@@ -18,7 +18,7 @@ class Table:
         self.says = says
         self.title = module.capitalize()
         self.kind = self.title + "Row"
-        self.functions = [module + "_row"] + ([module + "_lane_row"] if lanes else [])
+        self.functions = [module + "_row", module + "_lane_row"]
 
     def rows(self):
         words = [line.split() for line in (here / "coefficients.txt").read_text().splitlines()]
@@ -34,7 +34,6 @@ TABLES = [
         "i",
         ["value", "rest"],
         "Row i is for 2^(i/64): `value` is the nearest f64, and `rest` what its rounding lost, relative to it.",
-        lanes=True,
     ),
     Table(
         "log",
@@ -42,7 +41,6 @@ TABLES = [
         "j",
         ["centre", "inverse", "high", "low"],
         "Row j is for the j-th of 64 parts of the numbers from 0.698 to 1.396: a centre, its inverse, and its log as `high` + `low`.",
-        lanes=True,
     ),
     Table(
         "erfc",

@@ -9,30 +9,50 @@ use Rattle.num.specs.F64.{_⊖_, _⊗_, _⊘_, half·}
 use Rattle.order.specs.Quotients.{neg-div}
 use Rattle.elementary.specs.Exp.{expOf}
 use Rattle.elementary.specs.Log.{logOf}
-use Rattle.elementary.specs.Erfc.{erfcOf}
-use Rattle.lanes.specs.Lanes.{values, nth, expsOf, logsOf}
+use Rattle.elementary.specs.Erfc.{erfcOf, erfcPosOf}
+use Rattle.lanes.specs.Lanes.{values, nth, erfcsOf, expsOf, logsOf}
 use Rattle.lanes.specs.Filled.{at-place, same-values, own-values}
 use Rattle.normal.specs.declared.mills.LogMills.{LogMills}
 use Rattle.normal.specs.Normal.{logPhiOf, sqrt-two, fractionOf, normalTail}
-use Rattle.normal.specs.Twins.{byCdfOf}
+use Rattle.normal.specs.Twins.{sizeOf, byCdfOf}
 use Rattle.conditionals.specs.declared.normals.Ratios.{Ratios}
 use Rattle.conditionals.specs.declared.normals.Pairs.{Pairs}
-use Rattle.conditionals.specs.Normals.{acrossOf, cdfOf, cdfsOf, gapsOf, normalAt, ratiosOf, normalsOf}
+use Rattle.conditionals.specs.Normals.{acrossOf, turnedOf, sizesOf, halvesOf, cdfOf, cdfsOf, gapsOf, normalAt, ratiosOf, normalsOf}
 use Rattle.conditionals.specs.Tails.{fractionsOf, beyondOf, tailsAt, tailsOf}
 use Rattle.conditionals.proofs.TailsLaws.{none-beyond}
 
 pub gap : (r x l : Float) → r ≡ logPhiOf x → r ⊖ l ≡ logPhiOf x ⊖ l
 gap r x l e = rw e
 
-pub half-at : (x a : Float) → a ≡ erfcOf (neg x ⊘ sqrt-two) → half· ⊗ a ≡ cdfOf x
-half-at x a e = rw e
+-- ---- the distribution, by erfc of each size
+pub size-at : (t p : List Float) (j : ℕ) → p ≡ erfcsOf (sizesOf t) → j < 16 → getD p j nan ≡ erfcPosOf (sizeOf (getD t j nan))
+unfolding erfcsOf sizesOf
+size-at t p j e l = rw (e, at-place (nth erfcPosOf (sizesOf t)) j nan l, at-place (nth sizeOf t) j nan l)
 
-pub half-across : (x a : Float) → a ≡ erfcOf (neg (neg x ⊘ sqrt-two)) → half· ⊗ a ≡ cdfOf (neg x)
-half-across x a e = rw (e, neg-div binary64 (neg x) sqrt-two)
+pub half : (a x : Float) → a ≡ erfcOf x → half· ⊗ a ≡ half· ⊗ erfcOf x
+half a x e = rw e
 
-pub both-arrays : (x a b : List Float) → a ≡ values (nth cdfOf x) 16 0 → b ≡ values (nth (λ y. cdfOf (neg y)) x) 16 0 → _≡_ {A = Pairs} (record { at = a; across = b }) (cdfsOf x)
-unfolding cdfsOf
-both-arrays x a b e f = rw (e, f)
+pub both-arrays : (t a b : List Float) → a ≡ values (λ i. half· ⊗ erfcOf (getD t i nan)) 16 0 → b ≡ values (λ i. half· ⊗ erfcOf (neg (getD t i nan))) 16 0 → _≡_ {A = Pairs} (record { at = a; across = b }) (halvesOf t)
+unfolding halvesOf
+both-arrays t a b e f = rw (e, f)
+
+pub sized : (t s p : List Float) → s ≡ sizesOf t → p ≡ erfcsOf s → p ≡ erfcsOf (sizesOf t)
+sized t s p e f = rw (← e) f
+
+module _ (x : List Float) where
+  turned-at : (j : ℕ) → j < 16 → getD (turnedOf x) j nan ≡ neg (getD x j nan) ⊘ sqrt-two
+  unfolding turnedOf
+  turned-at j l = at-place (λ i. neg (getD x i nan) ⊘ sqrt-two) j nan l
+
+  pub by-halves : (t : List Float) (r : Pairs) → t ≡ turnedOf x → r ≡ halvesOf t → r ≡ cdfsOf x
+  unfolding halvesOf cdfsOf
+  by-halves t r e f =
+      rw (
+        f,
+        e,
+        same-values (λ i. half· ⊗ erfcOf (getD (turnedOf x) i nan)) (nth cdfOf x) (λ j l. rw (turned-at j l)),
+        same-values (λ i. half· ⊗ erfcOf (neg (getD (turnedOf x) i nan))) (nth (λ y. cdfOf (neg y)) x) (λ j l. rw (turned-at j l, neg-div binary64 (neg (getD x j nan)) sqrt-two)),
+      )
 
 same-ratios : (f g : ℕ → LogMills) → ((j : ℕ) → j < 16 → f j ≡ g j) → ratiosOf f ≡ ratiosOf g
 same-ratios f g h = rw (same-values (λ i. f i .log) (λ i. g i .log) (λ j l. rw (h j l)), same-values (λ i. f i .mills) (λ i. g i .mills) (λ j l. rw (h j l)))

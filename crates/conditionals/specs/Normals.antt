@@ -9,12 +9,23 @@ use Rattle.elementary.specs.Erfc.{erfcOf}
 use Rattle.lanes.specs.Lanes.{values, nth}
 use Rattle.normal.specs.declared.mills.LogMills.{LogMills}
 use Rattle.normal.specs.Normal.{logPhiOf, sqrt-two, normalTail}
-use Rattle.normal.specs.Twins.{byCdfOf}
+use Rattle.normal.specs.Twins.{sizeOf, byCdfOf}
 use Rattle.conditionals.specs.declared.normals.Ratios.{Ratios}
 use Rattle.conditionals.specs.declared.normals.Pairs.{Pairs}
 
 unfoldable pub acrossOf : List Float → List Float
 acrossOf x = values (nth neg x) 16 0
+
+-- where erfc is asked for, and of what size that is
+unfoldable pub turnedOf : List Float → List Float
+turnedOf x = values (λ i. neg (getD x i nan) ⊘ sqrt-two) 16 0
+
+unfoldable pub sizesOf : List Float → List Float
+sizesOf t = values (nth sizeOf t) 16 0
+
+-- half of erfc there, and across zero
+unfoldable pub halvesOf : List Float → Pairs
+halvesOf t = record { at = values (λ i. half· ⊗ erfcOf (getD t i nan)) 16 0; across = values (λ i. half· ⊗ erfcOf (neg (getD t i nan))) 16 0 }
 
 abbrev pub cdfOf : Float → Float
 cdfOf x = half· ⊗ erfcOf (neg x ⊘ sqrt-two)

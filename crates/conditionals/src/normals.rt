@@ -1,6 +1,7 @@
 // The normal distribution at sixteen places, from its values there: logarithms, ratios, and the far tail where one lies in it.
 ghost use mathlib.Core.Path.{_≡_};
-ghost use Rattle.conditionals.specs.Normals.{acrossOf, gapsOf, normalsOf, cdfsOf};
+ghost use Rattle.lanes.specs.Lanes.{erfcsOf};
+ghost use Rattle.conditionals.specs.Normals.{acrossOf, turnedOf, sizesOf, halvesOf, cdfsOf, gapsOf, normalsOf};
 
 const SQRT_2: f64 = 1.4142135623730951;
 
@@ -25,17 +26,48 @@ pub fn across(x: [f64; 16]) -> [f64; 16]
     v
 }
 
-pub fn cdfs(x: [f64; 16]) -> Pairs
-    ensures { λ r. ⌜ r ≡ cdfsOf x ⌝ }
+// Where erfc is asked for.
+fn turned(x: [f64; 16]) -> [f64; 16]
+    ensures { λ r. ⌜ r ≡ turnedOf x ⌝ }
+{
+    let mut v = [0.0; 16];
+    for i in 0..16usize {
+        v[i] = -x[i] / SQRT_2;
+    }
+    v
+}
+
+fn sizes(t: [f64; 16]) -> [f64; 16]
+    ensures { λ r. ⌜ r ≡ sizesOf t ⌝ }
+{
+    let mut v = [0.0; 16];
+    for i in 0..16usize {
+        v[i] = normal::twins::size(t[i]);
+    }
+    v
+}
+
+// p is erfc of each size.
+fn halves(t: [f64; 16], p: [f64; 16]) -> Pairs
+    requires { ⌜ p ≡ erfcsOf (sizesOf t) ⌝ }
+    ensures { λ r. ⌜ r ≡ halvesOf t ⌝ }
 {
     let mut at = [0.0; 16];
     let mut across = [0.0; 16];
     for i in 0..16usize {
-        let e = normal::twins::erfc_at_both(-x[i] / SQRT_2);
+        let e = normal::twins::erfc_with(t[i], p[i]);
         at[i] = 0.5 * e.at;
         across[i] = 0.5 * e.across;
     }
     Pairs { at, across }
+}
+
+pub fn cdfs(x: [f64; 16]) -> Pairs
+    ensures { λ r. ⌜ r ≡ cdfsOf x ⌝ }
+{
+    let t = turned(x);
+    let p = lanes::erfcs(sizes(t));
+    halves(t, p)
 }
 
 fn gaps(x: [f64; 16], log: [f64; 16]) -> [f64; 16]

@@ -1,7 +1,7 @@
 -- The complementary error function, step by step. A NaN comes through the tail.
 use mathlib.Core.List.{List, [], _∷_}
-use mathlib.Core.Bool.{cond}
-use Prim.Native.Nat.{_%_}
+use mathlib.Core.Bool.{Bool, cond}
+use Prim.Native.Nat.{ℕ, _%_}
 use lib.Ieee.{Float, neg, lt, ne}
 use Rattle.num.specs.F64.{_⊕_, _⊖_, _⊗_, _⊘_, bits, bitsOf, zero·, one·, two·, six·}
 use Rattle.tables.specs.declared.erfc.ErfcRow.{ErfcRow}
@@ -66,3 +66,10 @@ erfcPosOf a = let w = a ⊕ erfc-m in cond (lt w erfc-end) (erfcAtRow (erfcRowOf
 
 unfoldable pub erfcOf : Float → Float
 erfcOf x = cond (lt x (neg six·)) two· (cond (lt x zero·) (two· ⊖ erfcPosOf (neg x)) (erfcPosOf x))
+
+-- for many numbers at once: whether a row serves an a, and its place, or 0 where none does
+abbrev pub erfcHasRow : Float → Bool
+erfcHasRow a = lt (a ⊕ erfc-m) erfc-end
+
+unfoldable pub erfcPlace : Float → ℕ
+erfcPlace a = cond {A = ℕ} (erfcHasRow a) (bitsOf (a ⊕ erfc-m) % 128) 0

@@ -7,7 +7,7 @@
 // Special cases: NaN gives NaN, a zero 1. The result is 2 below -6, minus infinity too, and +0 from 28 up, plus
 // infinity too.
 ghost use mathlib.Core.Path.{_≡_};
-ghost use Rattle.elementary.specs.Erfc.{erfcOf, erfcPosOf, erfcAtRow, erfcTail, erfcBySeries};
+ghost use Rattle.elementary.specs.Erfc.{erfcOf, erfcPosOf, erfcAtRow, erfcTail, erfcBySeries, erfcHasRow, erfcPlace};
 
 // 1.5 · 2^48, which added to a number rounds it to a multiple of 1 / 16; that and 5.75, the sum from which no row serves.
 const ERFC_M: f64 = 422212465065984.0;
@@ -42,7 +42,7 @@ const ERFC_S11: f64 = -1446410.9151515737;
 
 const ERFC_S12: f64 = 4368768.806555064;
 
-fn at_row(row: tables::ErfcRow, a: f64) -> f64
+pub fn at_row(row: tables::ErfcRow, a: f64) -> f64
     ensures { λ r. ⌜ r ≡ erfcAtRow row a ⌝ }
 {
     let h = a - row.centre;
@@ -118,4 +118,21 @@ pub fn erfc(x: f64) -> f64
         return 2.0 - erfc_pos(-x);
     }
     erfc_pos(x)
+}
+
+// For many numbers at once, with the table's row between the two: whether a row serves an a that is not below zero, and which; 0 where none does.
+pub fn has_row(a: f64) -> bool
+    ensures { λ r. ⌜ r ≡ erfcHasRow a ⌝ }
+{
+    a + ERFC_M < ERFC_END
+}
+
+pub fn place(a: f64) -> u64
+    ensures { λ r. ⌜ r ≡ erfcPlace a ⌝ }
+{
+    let w = a + ERFC_M;
+    if w < ERFC_END {
+        return f64::to_bits(w) % 128;
+    }
+    0
 }

@@ -1,2 +1,3 @@
 pub mod ExpLaws
 pub mod LogLaws
+pub mod ErfcLaws

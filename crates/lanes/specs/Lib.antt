@@ -1,4 +1,5 @@
 pub mod Lanes
 pub mod ExpParts
 pub mod LogParts
+pub mod ErfcParts
 pub mod Filled

@@ -1,9 +1,10 @@
 // A function at sixteen numbers. Each part of its steps is taken at all sixteen before the next: no answer differs from one number after another.
+mod erfc;
 mod exp;
 mod log;
 
 ghost use mathlib.Core.Path.{_≡_};
-ghost use Rattle.lanes.specs.Lanes.{expsOf, logsOf};
+ghost use Rattle.lanes.specs.Lanes.{erfcsOf, expsOf, logsOf};
 
 pub fn exps(x: [f64; 16]) -> [f64; 16]
     ensures { λ r. ⌜ r ≡ expsOf x ⌝ }
@@ -21,4 +22,13 @@ pub fn logs(x: [f64; 16]) -> [f64; 16]
     let rows = log::rows(t);
     let v = log::by_rows(t, rows);
     log::choices(x, v)
+}
+
+// Of numbers that are not below zero.
+pub fn erfcs(x: [f64; 16]) -> [f64; 16]
+    ensures { λ r. ⌜ r ≡ erfcsOf x ⌝ }
+{
+    let m = erfc::places(x);
+    let v = erfc::by_rows(x, m);
+    erfc::choices(x, v)
 }

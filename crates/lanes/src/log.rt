@@ -16,27 +16,48 @@ pub fn places(x: [f64; 16]) -> [u64; 16]
     v
 }
 
-pub fn rows(t: [u64; 16]) -> [tables::LogRow; 16]
-    ensures { λ r. ⌜ r ≡ logRowsFor t ⌝ }
-{
-    let mut v = [tables::LogRow {
-        centre: 0.0,
-        inverse: 0.0,
-        high: 0.0,
-        low: 0.0,
-    }; 16];
-    for i in 0..16usize {
-        v[i] = tables::log_lane_row(t[i] % P52 / P46);
-    }
-    v
+// The rows of sixteen numbers, each field by itself: two numbers of a field are then one load.
+pub struct LogRows {
+    pub centre: [f64; 16],
+    pub inverse: [f64; 16],
+    pub high: [f64; 16],
+    pub low: [f64; 16],
 }
 
-pub fn by_rows(t: [u64; 16], rows: [tables::LogRow; 16]) -> [f64; 16]
+pub fn rows(t: [u64; 16]) -> LogRows
+    ensures { λ r. ⌜ r ≡ logRowsFor t ⌝ }
+{
+    let mut centre = [0.0; 16];
+    let mut inverse = [0.0; 16];
+    let mut high = [0.0; 16];
+    let mut low = [0.0; 16];
+    for i in 0..16usize {
+        let r = tables::log_lane_row(t[i] % P52 / P46);
+        centre[i] = r.centre;
+        inverse[i] = r.inverse;
+        high[i] = r.high;
+        low[i] = r.low;
+    }
+    LogRows {
+        centre,
+        inverse,
+        high,
+        low,
+    }
+}
+
+pub fn by_rows(t: [u64; 16], rows: LogRows) -> [f64; 16]
     ensures { λ r. ⌜ r ≡ logsByRow t rows ⌝ }
 {
     let mut v = [0.0; 16];
     for i in 0..16usize {
-        v[i] = elementary::log::by_row(t[i], rows[i]);
+        let row = tables::LogRow {
+            centre: rows.centre[i],
+            inverse: rows.inverse[i],
+            high: rows.high[i],
+            low: rows.low[i],
+        };
+        v[i] = elementary::log::by_row(t[i], row);
     }
     v
 }

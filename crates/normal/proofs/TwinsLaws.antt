@@ -10,7 +10,7 @@ use Rattle.elementary.specs.Erfc.{erfcOf, erfcPosOf}
 use Rattle.normal.specs.declared.mills.LogMills.{LogMills}
 use Rattle.normal.specs.declared.twins.Twins.{Twins}
 use Rattle.normal.specs.Normal.{logPhiOf, sqrt-two, normalCentre, normalOf}
-use Rattle.normal.specs.Twins.{byCdfOf, centresOf}
+use Rattle.normal.specs.Twins.{sizeOf, byCdfOf, centresOf}
 
 even-square : (h x : Float) → h ⊗ neg x ⊗ neg x ≡ h ⊗ x ⊗ x
 even-square h x = rw (mul-neg h x, mul-neg (neg (h ⊗ x)) x, mul-swap (neg (h ⊗ x)) x, mul-neg x (h ⊗ x), neg-neg (x ⊗ (h ⊗ x)), mul-swap x (h ⊗ x))
@@ -30,6 +30,16 @@ near-below x p h k e = rw (k, h, e)
 pub over : (x p : Float) → lt (neg x) (neg six·) ≡ false → lt (neg x) zero· ≡ false → p ≡ erfcPosOf (neg x) → p ≡ erfcOf (neg x)
 unfolding erfcOf
 over x p h k e = rw (h, k) e
+
+-- what erfc of a number's size is, below zero and above
+pub size-below : (x p : Float) → lt x zero· ≡ true → p ≡ erfcPosOf (sizeOf x) → p ≡ erfcPosOf (neg x)
+size-below x p h e = rw h at e
+
+pub size-above : (x p : Float) → lt x zero· ≡ false → p ≡ erfcPosOf (sizeOf x) → p ≡ erfcPosOf (neg (neg x))
+size-above x p h e = rw (neg-neg x) (rw h at e)
+
+pub of-size : (x a p : Float) → a ≡ sizeOf x → p ≡ erfcPosOf a → p ≡ erfcPosOf (sizeOf x)
+of-size x a p e f = rw (← e) f
 
 pub back : (x r : Float) → r ≡ erfcOf (neg (neg x)) → r ≡ erfcOf x
 back x r e = rw (neg-neg x) at e

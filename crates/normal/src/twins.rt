@@ -2,9 +2,9 @@
 use crate::mills::LogMills;
 ghost use mathlib.Core.Path.{_≡_};
 ghost use lib.Ieee.{neg};
-ghost use Rattle.elementary.specs.Erfc.{erfcOf};
+ghost use Rattle.elementary.specs.Erfc.{erfcOf, erfcPosOf};
 ghost use Rattle.normal.specs.Normal.{normalOf};
-ghost use Rattle.normal.specs.Twins.{byCdfOf, centresOf};
+ghost use Rattle.normal.specs.Twins.{sizeOf, byCdfOf, centresOf};
 
 const SQRT_2: f64 = 1.4142135623730951;
 
@@ -28,8 +28,16 @@ fn apart(x: f64) -> Erfcs
     }
 }
 
-// The tests of y are never met; they spare a proof of what y is.
-fn below(x: f64) -> Erfcs
+// A number's size: where the one erfc is asked for.
+pub fn size(x: f64) -> f64
+    ensures { λ r. ⌜ r ≡ sizeOf x ⌝ }
+{
+    num::pick(x < 0.0, -x, x)
+}
+
+// p is erfc across zero from an x below it. The tests of y are never met; they spare a proof of what y is.
+fn below(x: f64, p: f64) -> Erfcs
+    requires { ⌜ p ≡ erfcPosOf (neg x) ⌝ }
     ensures { λ r. ⌜ (r .at ≡ erfcOf x) × (r .across ≡ erfcOf (neg x)) ⌝ }
 {
     let y = -x;
@@ -40,7 +48,6 @@ fn below(x: f64) -> Erfcs
         if y < 0.0 {
             return apart(x);
         }
-        let p = elementary::erfc::erfc_pos(y);
         if x < -6.0 {
             return Erfcs { at: 2.0, across: p };
         }
@@ -52,17 +59,25 @@ fn below(x: f64) -> Erfcs
     apart(x)
 }
 
-pub fn erfc_at_both(x: f64) -> Erfcs
+// p is erfc of the size of x.
+pub fn erfc_with(x: f64, p: f64) -> Erfcs
+    requires { ⌜ p ≡ erfcPosOf (sizeOf x) ⌝ }
     ensures { λ r. ⌜ (r .at ≡ erfcOf x) × (r .across ≡ erfcOf (neg x)) ⌝ }
 {
     if x < 0.0 {
-        return below(x);
+        return below(x, p);
     }
-    let b = below(-x);
+    let b = below(-x, p);
     Erfcs {
         at: b.across,
         across: b.at,
     }
+}
+
+fn erfc_at_both(x: f64) -> Erfcs
+    ensures { λ r. ⌜ (r .at ≡ erfcOf x) × (r .across ≡ erfcOf (neg x)) ⌝ }
+{
+    erfc_with(x, elementary::erfc::erfc_pos(size(x)))
 }
 
 fn by_cdf(phi: f64, cdf: f64) -> LogMills

@@ -4,6 +4,7 @@ pub mod exp;
 pub mod log;
 
 pub use erfc::ErfcRow;
+pub use erfc::erfc_lane_row;
 pub use erfc::erfc_row;
 pub use exp::ExpRow;
 pub use exp::exp_lane_row;

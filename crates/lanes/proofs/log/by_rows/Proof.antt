@@ -6,13 +6,13 @@ use borrow.Author.Needs.{needs}
 use lib.ListN.{length, take, getD}
 use Rattle.elementary.specs.Log.{logByRow}
 use Rattle.lanes.specs.Lanes.{values}
-use Rattle.lanes.specs.LogParts.{noLogRow, logsByRow}
+use Rattle.lanes.specs.LogParts.{rowIn, logsByRow}
 use Rattle.lanes.specs.Filled.{turns, ends}
 use Rattle.lanes.proofs.log.by_rows.Statement.{statement}
 use Rattle.lanes.proofs.log.by_rows.Tie as tie
 
 abbrev Inv-loop : tie.InvT-loop
-Inv-loop t rows v₀ i₀ v i = (length v ≡ 16) × (take i v ++ values (λ i. logByRow (getD t i 0) (getD rows i noLogRow)) (16 - i) i ≡ logsByRow t rows)
+Inv-loop t rows v₀ i₀ v i = (length v ≡ 16) × (take i v ++ values (λ i. logByRow (getD t i 0) (rowIn rows i)) (16 - i) i ≡ logsByRow t rows)
 
 abbrev μ-loop : tie.MeasureT-loop
 μ-loop t rows v₀ i₀ v i = 16 - i
@@ -25,6 +25,12 @@ by-rows-spec =
     Inv-loop
     μ-loop
     (λ c. (refl, refl))
+    (λ c. search needs)
+    (λ c. search needs)
+    (λ c. search needs)
+    (λ c. search needs)
+    (λ c. search needs)
+    (λ c. search needs)
     (λ c. search needs)
     (λ c. search needs)
     (λ c. search needs)

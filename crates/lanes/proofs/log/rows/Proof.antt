@@ -1,30 +1,29 @@
--- `lanes::log::rows` meets its contract: a loop that fills sixteen places.
-use mathlib.Core.Path.{_≡_, refl}
-use mathlib.Core.List.{_++_}
+-- `lanes::log::rows` meets its contract: a loop that fills four arrays.
+use mathlib.Core.Path.{refl}
 use Prim.Native.Nat.{_-_}
 use borrow.Author.Needs.{needs}
-use lib.ListN.{length, take, getD}
+use lib.ListN.{getD}
 use Rattle.elementary.specs.Log.{logRowAt}
 use Rattle.lanes.specs.Lanes.{values}
-use Rattle.lanes.specs.LogParts.{logRowsFor}
-use Rattle.lanes.specs.Filled.{turns, ends}
+use Rattle.lanes.specs.Filled.{turns, ends, Filling}
+use Rattle.lanes.proofs.LogLaws.{the-centre, the-inverse, the-high, the-low, all-four}
 use Rattle.lanes.proofs.log.rows.Statement.{statement}
 use Rattle.lanes.proofs.log.rows.Tie as tie
 
 abbrev Inv-loop : tie.InvT-loop
-Inv-loop t v₀ i₀ v i = (length v ≡ 16) × (take i v ++ values (λ i. logRowAt (getD t i 0)) (16 - i) i ≡ logRowsFor t)
+Inv-loop t centre₀ inverse₀ high₀ low₀ i₀ centre inverse high low i =
+    Filling (λ i. logRowAt (getD t i 0) .centre) (values (λ i. logRowAt (getD t i 0) .centre) 16 0) centre i × Filling (λ i. logRowAt (getD t i 0) .inverse) (values (λ i. logRowAt (getD t i 0) .inverse) 16 0) inverse i × Filling (λ i. logRowAt (getD t i 0) .high) (values (λ i. logRowAt (getD t i 0) .high) 16 0) high i × Filling (λ i. logRowAt (getD t i 0) .low) (values (λ i. logRowAt (getD t i 0) .low) 16 0) low i
 
 abbrev μ-loop : tie.MeasureT-loop
-μ-loop t v₀ i₀ v i = 16 - i
+μ-loop t centre₀ inverse₀ high₀ low₀ i₀ centre inverse high low i = 16 - i
 
 pub rows-spec : {M : Type 1} → statement M
-unfolding logRowsFor
 rows-spec =
     tie.close
     (tie.spec
     Inv-loop
     μ-loop
-    (λ c. (refl, refl))
+    (λ c. ((refl, refl), (refl, refl), (refl, refl), (refl, refl)))
     (λ c. search needs)
     (λ c. search needs)
     (λ c κs. search needs)
@@ -32,5 +31,11 @@ rows-spec =
     (λ c. search needs)
     (λ c. search needs)
     (λ c. search needs)
-    (λ c. (search needs, search turns))
-    (λ c. search ends))
+    (λ c. search needs)
+    (λ c. search needs)
+    (λ c. search needs)
+    (λ c. search needs)
+    (λ c. search needs)
+    (λ c. search needs)
+    (λ c. ((search needs, search (turns, the-centre)), (search needs, search (turns, the-inverse)), (search needs, search (turns, the-high)), (search needs, search (turns, the-low))))
+    (λ c. search (all-four, ends)))

@@ -1,0 +1,38 @@
+-- `lanes::erfc::by_rows` meets its contract: a loop that fills sixteen places.
+use mathlib.Core.Path.{_≡_, refl}
+use mathlib.Core.List.{_++_}
+use Prim.Native.Nat.{_-_}
+use borrow.Author.Needs.{needs}
+use lib.ListN.{length, take, getD}
+use lib.Ieee.{nan}
+use Rattle.lanes.specs.Lanes.{values}
+use Rattle.lanes.specs.ErfcParts.{erfcByRow, erfcsByRow}
+use Rattle.lanes.specs.Filled.{turns, ends}
+use Rattle.lanes.proofs.erfc.by_rows.Statement.{statement}
+use Rattle.lanes.proofs.erfc.by_rows.Tie as tie
+
+abbrev Inv-loop : tie.InvT-loop
+Inv-loop x m v₀ i₀ v i = (length v ≡ 16) × (take i v ++ values (λ i. erfcByRow (getD x i nan) (getD m i 0)) (16 - i) i ≡ erfcsByRow x m)
+
+abbrev μ-loop : tie.MeasureT-loop
+μ-loop x m v₀ i₀ v i = 16 - i
+
+pub by-rows-spec : {M : Type 1} → statement M
+unfolding erfcsByRow
+by-rows-spec =
+    tie.close
+    (tie.spec
+    Inv-loop
+    μ-loop
+    (λ c. (refl, refl))
+    (λ c. search needs)
+    (λ c. search needs)
+    (λ c. search needs)
+    (λ c. search needs)
+    (λ c κs. search needs)
+    (λ c. search needs)
+    (λ c. search needs)
+    (λ c. search needs)
+    (λ c. search needs)
+    (λ c. (search needs, search turns))
+    (λ c. search ends))
