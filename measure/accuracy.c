@@ -190,7 +190,7 @@ struct function {
     double limit, limit_below;
     bool top;  // plus infinity exactly where the exact result is 2^1024 or more
 };
-// document 01 gives hypot no limit below the normal range; it is held to 2 there too, and log1p to the nearest
+// docs/RULES.md gives hypot no limit below the normal range; it is held to 2 there too, and log1p to the nearest
 static const struct function EXP = {"exp", probit_exp, NULL, mpfr_exp, 2, 4, true};
 static const struct function LOG = {"log", probit_log, NULL, mpfr_log, 2, 0, false};
 static const struct function LOG1P = {"log1p", probit_log1p, NULL, mpfr_log1p, 2, 0.5, false};

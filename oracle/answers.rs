@@ -124,8 +124,8 @@ pub fn read(text: &[u8]) -> Result<Request, usize> {
     })
 }
 
-// The answers in print. What they leave out (hash, algorithm, source) document 01 leaves behind. What the module's
-// record has not, the hooks tell (document 02 §6).
+// The answers in print. Hash, algorithm and source are no part of our answers (docs/DIFFERENCES.md). What the
+// module's record has not, the hooks tell (docs/CHANGES.md, §6).
 
 pub trait Answer {
     fn print(&self, seen: &Seen) -> String;

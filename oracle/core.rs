@@ -24,7 +24,7 @@ pub mod fit {
 }
 
 pub mod identity {
-    /// The hash is left behind (document 01), and here it cannot fail.
+    /// The hash is no part of our answers, and here it cannot fail.
     pub fn canonical_hash<T>(_: &T) -> Result<String, crate::Error> {
         Ok(String::new())
     }
@@ -41,7 +41,7 @@ pub mod model {
 pub mod units {
     use crate::{Error, ErrorCode};
 
-    /// Units are left behind (document 02 §9): all numbers are in one, and have to be finite.
+    /// Units are left behind (docs/CHANGES.md, §9): all numbers are in one, and have to be finite.
     #[derive(Clone, Copy)]
     pub struct Unit;
     impl Unit {

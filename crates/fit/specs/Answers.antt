@@ -58,6 +58,6 @@ module _ (r : Request) (ls : List ℕ) where
       (λ t. let e = rw t at h in rw (t, branch, e, gives-up))
       (λ t. rw t)
 
-  -- whichever check of document 01 it is
+  -- whichever check it is
   pub any-fails : (i : ℕ) → getD (requestChecks r ls) i true ≡ false → fitOf r ls ≡ refusedOf InvalidInput 0
   any-fails i h = unfit-refused (checks.any-fails r ls i h)

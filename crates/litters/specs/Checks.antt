@@ -1,4 +1,4 @@
--- Document 01's checks of litters one by one: they are what is tested. So none and more than 128 are not valid, and the numbers of a valid litter are bounded.
+-- What litters must satisfy (docs/RULES.md), check by check: these are what is tested. So none and more than 128 are not valid, and the numbers of a valid litter are bounded.
 use mathlib.Core.Path.{_≡_, refl, sym, _∙_}
 use mathlib.Core.Bool.{Bool, true, false}
 use mathlib.Core.List.{List, [], _∷_, _++_}

@@ -1,4 +1,4 @@
--- Document 01's checks of a point one by one. With the litters' they are what is tested, so one that fails is enough for a refusal.
+-- What a point must satisfy (docs/RULES.md), check by check. With the litters' checks they are what is tested, so one that fails is enough for a refusal.
 use mathlib.Core.Path.{_≡_, _∙_}
 use mathlib.Core.Bool.{Bool, true, false}
 use mathlib.Core.List.{List, [], _∷_, _++_}

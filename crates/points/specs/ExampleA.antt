@@ -1,4 +1,4 @@
--- Example A of document 01: its whole answer, as antt computes it from the fit's definition; and its refusals.
+-- Example A (docs/FORMAT.md): its whole answer, as antt computes it from the fit's definition; and its refusals.
 use mathlib.Core.Path.{_≡_, refl}
 use mathlib.Core.Bool.{true, false}
 use mathlib.Core.List.{List, [], _∷_, _++_}

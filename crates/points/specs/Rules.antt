@@ -1,4 +1,4 @@
--- Document 01's rules for Rust's methods, of the definitions that the helpers' contracts cite.
+-- The rules of docs/RULES.md for max, min, clamp, powi and sums, of the definitions that the helpers' contracts cite.
 use mathlib.Core.Path.{_≡_, refl, sym, ap, subst, _∙_}
 use mathlib.Core.Bool.{Bool, true, false, cond}
 use mathlib.Core.List.{[], _∷_}

@@ -23,7 +23,7 @@ statusText EvaluationLimit = ascii "status evaluation-limit\n"
 statusText IterationLimit = ascii "status iteration-limit\n"
 statusText LineSearchFailed = ascii "status line-search-failed\n"
 
--- the SDs' line stands twice, as document 01 shows it
+-- the SDs' line stands twice (docs/FORMAT.md)
 abbrev pub report : List ℕ
 report = ascii "mean % %\nsd % %\nsd % %\nvariance % %\nnll %\ngradient %\ncounts # # #\nlitters #\nactive"
 

@@ -1,4 +1,4 @@
--- Example A of document 01 and texts beside it, as antt computes them from the definitions.
+-- Example A (docs/FORMAT.md) and texts beside it, as antt computes them from the definitions.
 use mathlib.Core.Path.{_≡_, refl}
 use mathlib.Core.List.{List, [], _∷_, _++_}
 use Prim.Native.Nat.{ℕ}

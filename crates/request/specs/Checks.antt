@@ -1,4 +1,4 @@
--- Document 01's checks of a fit's request one by one: all of them together are what is tested, so one that fails is enough for a refusal.
+-- What a fit's request must satisfy (docs/RULES.md), check by check: all of them together are what is tested, so one that fails is enough for a refusal.
 use mathlib.Core.Path.{_≡_, _∙_}
 use mathlib.Core.Bool.{Bool, true, false, _&&_}
 use mathlib.Core.List.{List, [], _∷_, _++_}
