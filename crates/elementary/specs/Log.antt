@@ -46,11 +46,13 @@ abbrev pub log-c7 : Float
 log-c7 = bits 0x3fc2_49a0_e4e3_5109
 
 -- The number with the bits b, its exponent counted from sub, is z 2^k; its logarithm is k ln 2, the row's, and that of z / centre.
--- The sum of what is a multiple of 2^-42 is exact: that is `hi`, and `lo` is the rest. t is b + log-d.
-abbrev pub logAt : ℕ → Float → LogRow → LogParts
-logAt t sub row =
-    let k = whole (t / 2 ^ 52) ⊖ sub in
-    let z = bits (t % 2 ^ 52 + log-off) in
+-- The sum of what is a multiple of 2^-42 is exact: that is `hi`, and `lo` is the rest. Of t, which is b + log-d, k is the exponent and frac the fraction.
+abbrev pub logExponent : ℕ → Float → Float
+logExponent t sub = whole (t / 2 ^ 52) ⊖ sub
+
+abbrev pub logAt : Float → ℕ → LogRow → LogParts
+logAt k frac row =
+    let z = bits (frac + log-off) in
     let d = z ⊖ row .centre in
     let p = d ⊗ row .inverse in
     let rh = (p ⊕ log-m) ⊖ log-m in
@@ -64,7 +66,7 @@ abbrev pub logRowAt : ℕ → LogRow
 logRowAt t = logRowOf (t % 2 ^ 52 / 2 ^ 46)
 
 unfoldable pub logParts : ℕ → Float → LogParts
-logParts b sub = let t = b + log-d in logAt t sub (logRowAt t)
+logParts b sub = let t = b + log-d in logAt (logExponent t sub) (t % 2 ^ 52) (logRowAt t)
 
 abbrev pub logSum : LogParts → Float
 logSum p = p .hi ⊕ p .lo
@@ -94,4 +96,4 @@ logPlace x = cond {A = ℕ} (lt x least-normal) 0 (cond {A = ℕ} (lt x infinity
 
 -- and the logarithm by the place and its row
 unfoldable pub logByRow : ℕ → LogRow → Float
-logByRow t row = logSum (logAt t log-bias row)
+logByRow t row = logSum (logAt (logExponent t log-bias) (t % 2 ^ 52) row)

@@ -55,6 +55,7 @@ pub fn place(x: f64) -> u64
 pub fn by_row(t: u64, row: tables::LogRow) -> f64
     ensures { λ r. ⌜ r ≡ logByRow t row ⌝ }
 {
-    let r = crate::log_parts::at_row(t, 1023.0, row);
+    let k = crate::log_parts::exponent(t, 1023.0);
+    let r = crate::log_parts::at_row(k, crate::log_parts::fraction(t), row);
     r.hi + r.lo
 }

@@ -5,8 +5,8 @@
 // Error: measured in the three functions only; their files have it.
 // Special cases: none. Each caller has tested that its number is above zero and finite.
 ghost use mathlib.Core.Path.{_≡_};
-ghost use Prim.Native.Nat.{_<_, _^_};
-ghost use Rattle.elementary.specs.Log.{logParts, logAt};
+ghost use Prim.Native.Nat.{_<_, _^_, _%_};
+ghost use Rattle.elementary.specs.Log.{logExponent, logParts, logAt};
 
 // The bits where the range of the reduced number begins, and of 1 less those.
 const LOG_OFF: u64 = 0x3fe6_5555_0000_0000;
@@ -40,22 +40,36 @@ pub struct LogParts {
     pub lo: f64,
 }
 
+// Of t, which is a number's bits and LOG_D: its exponent, counted from sub, and the bits of its fraction.
+pub fn exponent(t: u64, sub: f64) -> f64
+    ensures { λ r. ⌜ r ≡ logExponent t sub ⌝ }
+{
+    ((t / P52) as u32) as f64 - sub
+}
+
+pub fn fraction(t: u64) -> u64
+    ensures { λ r. ⌜ (r ≡ t % 2 ^ 52) × (r < 2 ^ 52) ⌝ }
+{
+    t % P52
+}
+
 // b is the bits of a number above zero whose exponent counts from sub.
 pub fn parts(b: u64, sub: f64) -> LogParts
     requires { ⌜ b < 2 ^ 63 ⌝ }
     ensures { λ r. ⌜ r ≡ logParts b sub ⌝ }
 {
     let t = b + LOG_D;
-    let row = tables::log_row(t % P52 / P46);
-    at_row(t, sub, row)
+    let k = exponent(t, sub);
+    let frac = fraction(t);
+    at_row(k, frac, tables::log_row(frac / P46))
 }
 
-// The same of t, which is b + LOG_D, by its row.
-pub fn at_row(t: u64, sub: f64, row: tables::LogRow) -> LogParts
-    ensures { λ r. ⌜ r ≡ logAt t sub row ⌝ }
+// The same of the exponent and the fraction, by the row.
+pub fn at_row(k: f64, frac: u64, row: tables::LogRow) -> LogParts
+    requires { ⌜ frac < 2 ^ 52 ⌝ }
+    ensures { λ r. ⌜ r ≡ logAt k frac row ⌝ }
 {
-    let k = ((t / P52) as u32) as f64 - sub;
-    let z = f64::from_bits(t % P52 + LOG_OFF);
+    let z = f64::from_bits(frac + LOG_OFF);
     let d = z - row.centre;
     let p = d * row.inverse;
     let rh = (p + LOG_M) - LOG_M;

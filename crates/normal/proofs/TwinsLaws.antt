@@ -1,6 +1,6 @@
 -- The laws by which one erfc serves x and -x.
-use mathlib.Core.Path.{_≡_}
-use mathlib.Core.Bool.{true, false}
+use mathlib.Core.Path.{_≡_, refl, sym}
+use mathlib.Core.Bool.{Bool, true, false, cond}
 use lib.Ieee.{Float, binary64, neg, lt}
 use Rattle.num.specs.F64.{_⊖_, _⊗_, _⊘_, zero·, half·, two·, six·, eight·}
 use Rattle.order.specs.Negation.{neg-neg}
@@ -10,7 +10,7 @@ use Rattle.elementary.specs.Erfc.{erfcOf, erfcPosOf}
 use Rattle.normal.specs.declared.mills.LogMills.{LogMills}
 use Rattle.normal.specs.declared.twins.Twins.{Twins}
 use Rattle.normal.specs.Normal.{logPhiOf, sqrt-two, normalCentre, normalOf}
-use Rattle.normal.specs.Twins.{sizeOf, byCdfOf, centresOf}
+use Rattle.normal.specs.Twins.{sizeOf, servesOf, byCdfOf, centresOf}
 
 even-square : (h x : Float) → h ⊗ neg x ⊗ neg x ≡ h ⊗ x ⊗ x
 even-square h x = rw (mul-neg h x, mul-neg (neg (h ⊗ x)) x, mul-swap (neg (h ⊗ x)) x, mul-neg x (h ⊗ x), neg-neg (x ⊗ (h ⊗ x)), mul-swap x (h ⊗ x))
@@ -18,18 +18,42 @@ even-square h x = rw (mul-neg h x, mul-neg (neg (h ⊗ x)) x, mul-swap (neg (h �
 even-phi : (x : Float) → logPhiOf (neg x) ≡ logPhiOf x
 even-phi x = rw (even-square (neg half·) x)
 
--- erfc at an x below zero, and across zero from it
-pub far-below : (x : Float) → lt x (neg six·) ≡ true → two· ≡ erfcOf x
-unfolding erfcOf
-far-below x h = rw h
+-- what two tests that fail leave to a third
+first : (a b c : Bool) → cond a false (cond b false c) ≡ true → a ≡ false
+first true b c h = sym h
+first false b c h = refl
 
-pub near-below : (x p : Float) → lt x zero· ≡ true → lt x (neg six·) ≡ false → p ≡ erfcPosOf (neg x) → two· ⊖ p ≡ erfcOf x
-unfolding erfcOf
-near-below x p h k e = rw (k, h, e)
+second : (a b c : Bool) → cond a false (cond b false c) ≡ true → b ≡ false
+second true b c h = cc
+second false true c h = sym h
+second false false c h = refl
 
-pub over : (x p : Float) → lt (neg x) (neg six·) ≡ false → lt (neg x) zero· ≡ false → p ≡ erfcPosOf (neg x) → p ≡ erfcOf (neg x)
-unfolding erfcOf
-over x p h k e = rw (h, k) e
+-- erfc at an x that erfc across zero serves, and across
+module _ (x : Float) (s : servesOf x ≡ true) where
+  beyond : lt (neg x) (neg six·) ≡ false
+  unfolding servesOf
+  beyond = first (lt (neg x) (neg six·)) (lt (neg x) zero·) (lt x zero·) s
+
+  across : lt (neg x) zero· ≡ false
+  unfolding servesOf
+  across = second (lt (neg x) (neg six·)) (lt (neg x) zero·) (lt x zero·) s
+
+  under : lt x zero· ≡ true
+  unfolding servesOf
+  under = rw (beyond, across) at s
+
+  pub far-served : lt x (neg six·) ≡ true → two· ≡ erfcOf x
+  unfolding erfcOf
+  far-served h = rw h
+
+  module _ (p : Float) (e : p ≡ erfcPosOf (neg x)) where
+    pub near-served : lt x (neg six·) ≡ false → two· ⊖ p ≡ erfcOf x
+    unfolding erfcOf
+    near-served h = rw (h, under, e)
+
+    pub across-served : p ≡ erfcOf (neg x)
+    unfolding erfcOf
+    across-served = rw (beyond, across) e
 
 -- what erfc of a number's size is, below zero and above
 pub size-below : (x p : Float) → lt x zero· ≡ true → p ≡ erfcPosOf (sizeOf x) → p ≡ erfcPosOf (neg x)
@@ -37,9 +61,6 @@ size-below x p h e = rw h at e
 
 pub size-above : (x p : Float) → lt x zero· ≡ false → p ≡ erfcPosOf (sizeOf x) → p ≡ erfcPosOf (neg (neg x))
 size-above x p h e = rw (neg-neg x) (rw h at e)
-
-pub of-size : (x a p : Float) → a ≡ sizeOf x → p ≡ erfcPosOf a → p ≡ erfcPosOf (sizeOf x)
-of-size x a p e f = rw (← e) f
 
 pub back : (x r : Float) → r ≡ erfcOf (neg (neg x)) → r ≡ erfcOf x
 back x r e = rw (neg-neg x) at e

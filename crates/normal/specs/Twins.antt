@@ -1,7 +1,7 @@
 -- The normal distribution at x and at -x, both by erfc.
-use mathlib.Core.Bool.{cond}
+use mathlib.Core.Bool.{Bool, false, cond}
 use lib.Ieee.{Float, neg, lt}
-use Rattle.num.specs.F64.{_⊖_, zero·}
+use Rattle.num.specs.F64.{_⊖_, zero·, six·}
 use Rattle.elementary.specs.Log.{logOf}
 use Rattle.elementary.specs.Exp.{expOf}
 use Rattle.normal.specs.declared.mills.LogMills.{LogMills}
@@ -10,6 +10,10 @@ use Rattle.normal.specs.Normal.{normalCentre}
 
 abbrev pub sizeOf : Float → Float
 sizeOf x = cond (lt x zero·) (neg x) x
+
+-- erfc across zero from x serves x too; the first two tests are never met
+unfoldable pub servesOf : Float → Bool
+servesOf x = cond (lt (neg x) (neg six·)) false (cond (lt (neg x) zero·) false (lt x zero·))
 
 abbrev pub byCdfOf : Float → Float → LogMills
 byCdfOf phi cdf = let l = logOf cdf in record { log = l; mills = expOf (phi ⊖ l) }

@@ -1,10 +1,11 @@
 // The normal distribution at x and at -x at once: erfc(-t) is 2 - erfc(t), so one erfc serves both.
 use crate::mills::LogMills;
 ghost use mathlib.Core.Path.{_≡_};
+ghost use mathlib.Core.Bool.{true};
 ghost use lib.Ieee.{neg};
 ghost use Rattle.elementary.specs.Erfc.{erfcOf, erfcPosOf};
 ghost use Rattle.normal.specs.Normal.{normalOf};
-ghost use Rattle.normal.specs.Twins.{sizeOf, byCdfOf, centresOf};
+ghost use Rattle.normal.specs.Twins.{sizeOf, servesOf, byCdfOf, centresOf};
 
 const SQRT_2: f64 = 1.4142135623730951;
 
@@ -28,26 +29,26 @@ fn apart(x: f64) -> Erfcs
     }
 }
 
-// A number's size: where the one erfc is asked for.
-pub fn size(x: f64) -> f64
-    ensures { λ r. ⌜ r ≡ sizeOf x ⌝ }
+// Whether erfc across zero from x serves x too: where x is below zero. The tests of -x are never met; they spare a
+// proof of what it is.
+fn serves(x: f64) -> bool
+    ensures { λ r. ⌜ r ≡ servesOf x ⌝ }
 {
-    num::pick(x < 0.0, -x, x)
+    if -x < -6.0 {
+        return false;
+    }
+    if -x < 0.0 {
+        return false;
+    }
+    x < 0.0
 }
 
-// p is erfc across zero from an x below it. The tests of y are never met; they spare a proof of what y is.
-fn below(x: f64, p: f64) -> Erfcs
-    requires { ⌜ p ≡ erfcPosOf (neg x) ⌝ }
+// Asks for erfc itself, past the test, and writes out what `served` has: so an evaluation takes fewer instructions.
+fn below(x: f64) -> Erfcs
     ensures { λ r. ⌜ (r .at ≡ erfcOf x) × (r .across ≡ erfcOf (neg x)) ⌝ }
 {
-    let y = -x;
-    if x < 0.0 {
-        if y < -6.0 {
-            return apart(x);
-        }
-        if y < 0.0 {
-            return apart(x);
-        }
+    if serves(x) {
+        let p = elementary::erfc::erfc_pos(-x);
         if x < -6.0 {
             return Erfcs { at: 2.0, across: p };
         }
@@ -59,25 +60,64 @@ fn below(x: f64, p: f64) -> Erfcs
     apart(x)
 }
 
-// p is erfc of the size of x.
-pub fn erfc_with(x: f64, p: f64) -> Erfcs
-    requires { ⌜ p ≡ erfcPosOf (sizeOf x) ⌝ }
+fn erfc_at_both(x: f64) -> Erfcs
     ensures { λ r. ⌜ (r .at ≡ erfcOf x) × (r .across ≡ erfcOf (neg x)) ⌝ }
 {
     if x < 0.0 {
-        return below(x, p);
+        return below(x);
     }
-    let b = below(-x, p);
+    let b = below(-x);
     Erfcs {
         at: b.across,
         across: b.at,
     }
 }
 
-fn erfc_at_both(x: f64) -> Erfcs
+// For many numbers at once, erfc is asked for elsewhere, at a number's size.
+pub fn size(x: f64) -> f64
+    ensures { λ r. ⌜ r ≡ sizeOf x ⌝ }
+{
+    num::pick(x < 0.0, -x, x)
+}
+
+// p is erfc across zero from an x that it serves.
+fn served(x: f64, p: f64) -> Erfcs
+    requires { ⌜ (servesOf x ≡ true) × (p ≡ erfcPosOf (neg x)) ⌝ }
     ensures { λ r. ⌜ (r .at ≡ erfcOf x) × (r .across ≡ erfcOf (neg x)) ⌝ }
 {
-    erfc_with(x, elementary::erfc::erfc_pos(size(x)))
+    if x < -6.0 {
+        return Erfcs { at: 2.0, across: p };
+    }
+    Erfcs {
+        at: 2.0 - p,
+        across: p,
+    }
+}
+
+// p is erfc across zero from x.
+fn below_with(x: f64, p: f64) -> Erfcs
+    requires { ⌜ p ≡ erfcPosOf (neg x) ⌝ }
+    ensures { λ r. ⌜ (r .at ≡ erfcOf x) × (r .across ≡ erfcOf (neg x)) ⌝ }
+{
+    if serves(x) {
+        return served(x, p);
+    }
+    apart(x)
+}
+
+// p is erfc of the size of x.
+pub fn erfc_with(x: f64, p: f64) -> Erfcs
+    requires { ⌜ p ≡ erfcPosOf (sizeOf x) ⌝ }
+    ensures { λ r. ⌜ (r .at ≡ erfcOf x) × (r .across ≡ erfcOf (neg x)) ⌝ }
+{
+    if x < 0.0 {
+        return below_with(x, p);
+    }
+    let b = below_with(-x, p);
+    Erfcs {
+        at: b.across,
+        across: b.at,
+    }
 }
 
 fn by_cdf(phi: f64, cdf: f64) -> LogMills

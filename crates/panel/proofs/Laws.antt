@@ -3,6 +3,7 @@ use mathlib.Core.Path.{_≡_, _∙_}
 use mathlib.Core.Bool.{true, false, cond}
 use mathlib.Core.List.{List}
 use Prim.Native.Nat.{ℕ, zero, suc, _+_, _-_, _<_, _≤_}
+use native.Mathlib.Nat.{not-suc-le-zero}
 use lib.ListN.{getD}
 use lib.Ieee.{Float}
 use Rattle.num.specs.F64.{_⊕_, _⊖_, _⊗_, whole, half·}
@@ -58,6 +59,11 @@ module _ (all : Sums) (rule : List Pair) (top mid width : Float) (n i : ℕ) (q 
 
   pub side-done : sideFrom q rule top mid width (n - i) i s ≡ all → n ≤ i → record { end = Answered; p = q; sum = s } ≡ all
   side-done v h = rw (left-none n i h, side-end) at v
+
+-- a side ends with its first panel, where that is refused
+pub first-stops : (rule : List Pair) (top a width : Float) (n : ℕ) (p : Posterior) (r b : Sums) → 0 < n → b ≡ panelOf p rule top (a ⊕ (whole 0 ⊕ half·) ⊗ width) width noSums → isRefused (b .end) ≡ true → r ≡ nothingOf (b .end) (b .p) → r ≡ sideOf p rule top a width n noSums
+first-stops rule top a width zero p r b h e t w = absurd (not-suc-le-zero h)
+first-stops rule top a width (suc n) p r b h e t w = unfold sideOf in rw (side-step rule top a width 0 p noSums n, ← e, t) w
 
 -- ---- both sides
 sides-is : (p : Posterior) (rule : List Pair) (h : Hump) (m : ℕ) → sidesOf p rule h m ≡ (let l = sideOf p rule (h .log) (h .left) (widthOf (h .left) (h .mode) m) m noSums in cond (isRefused (l .end)) (nothingOf (l .end) (l .p)) (sideOf (l .p) rule (h .log) (h .mode) (widthOf (h .mode) (h .right) m) m (l .sum)))

@@ -6,7 +6,7 @@ use work::QuadratureEvaluations;
 ghost use mathlib.Core.Path.{_≡_};
 ghost use Prim.Native.Nat.{_-_};
 ghost use lib.Dec.{leb};
-ghost use Rattle.panel.specs.Panel.{nothingOf, panelOf, sideOf, sidesOf};
+ghost use Rattle.panel.specs.Panel.{noSums, nothingOf, panelOf, sideOf, sidesOf};
 
 // The interval of the integral, with the mode in it and the logarithm there.
 pub struct Hump {
@@ -126,17 +126,40 @@ fn side(
     }
 }
 
+// A limit that ends within the first panel is met one by one, before the work that the stages of a side share.
+fn left_side(p: Posterior, rule: [Pair; 16], top: f64, a: f64, width: f64, panels: u32) -> Sums
+    ensures { λ r. ⌜ r ≡ sideOf p rule top a width panels noSums ⌝ }
+{
+    if 0 < panels {
+        if !sixteen_left(p.evaluations.0, p.limit.0) {
+            let r = one_by_one(
+                p,
+                rule,
+                top,
+                a + (0u32 as f64 + 0.5) * width,
+                width,
+                [0.0; 6],
+            );
+            let end = r.end;
+            let q = r.p;
+            if work::refused(end) {
+                return nothing(end, q);
+            }
+        }
+    }
+    side(p, rule, top, a, width, panels, [0.0; 6])
+}
+
 pub fn sides(p: Posterior, rule: [Pair; 16], h: Hump, panels: u32) -> Sums
     ensures { λ r. ⌜ r ≡ sidesOf p rule h panels ⌝ }
 {
-    let l = side(
+    let l = left_side(
         p,
         rule,
         h.log,
         h.left,
         (h.mode - h.left) / panels as f64,
         panels,
-        [0.0; 6],
     );
     let end = l.end;
     let q = l.p;

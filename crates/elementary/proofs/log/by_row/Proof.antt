@@ -11,4 +11,6 @@ by-row-spec =
     tie.close
     (tie.spec
     (λ c κs. search needs)
-    (λ c. ap logSum (c .before .at-row .ensures)))
+    (λ c κs. search needs)
+    (λ c κs. c .fraction .ensures .1)
+    (λ c. let a = c .before in rw (← a .before .before .exponent .ensures, ← a .before .fraction .ensures .0) (ap logSum (a .at-row .ensures))))

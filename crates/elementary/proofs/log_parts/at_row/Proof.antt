@@ -11,7 +11,5 @@ at-row-spec =
     tie.close
     (tie.spec
     (λ c. search needs)
-    (λ c. search needs)
-    (λ c. search needs)
     (λ c. number-bits _ (omega arith))
     (λ c. refl))

@@ -12,4 +12,6 @@ parts-spec =
     (λ c. search needs)
     (λ c κs. search needs)
     (λ c κs. search needs)
-    (λ c. rw (← c .before .log-row .ensures) (c .at-row .ensures)))
+    (λ c κs. search needs)
+    (λ c κs. c .before .fraction .ensures .1)
+    (λ c. rw (← c .before .before .before .exponent .ensures, ← c .before .before .fraction .ensures .0, ← c .before .log-row .ensures) (c .at-row .ensures)))

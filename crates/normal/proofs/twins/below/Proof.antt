@@ -1,6 +1,7 @@
 -- `twins::below` meets its contract, by its tests.
 use borrow.Author.Needs.{needs}
-use Rattle.normal.proofs.TwinsLaws.{far-below, near-below, over}
+use Rattle.num.specs.Choose.{choose}
+use Rattle.normal.proofs.TwinsLaws.{far-served, near-served, across-served}
 use Rattle.normal.proofs.twins.below.Statement.{statement}
 use Rattle.normal.proofs.twins.below.Tie as tie
 
@@ -9,10 +10,8 @@ below-spec =
     tie.close
     (tie.spec
     (λ c κs. search needs)
-    (λ c. search needs)
     (λ c κs. search needs)
-    (λ c. search needs)
-    (λ c. search (far-below, over))
-    (λ c. search (near-below, over))
+    (λ c. search (far-served, across-served, choose))
+    (λ c. search (near-served, across-served, choose))
     (λ c κs. search needs)
     (λ c. search needs))
