@@ -5,6 +5,7 @@ use Prim.Native.Nat.{ℕ, zero, suc, _+_, _*_, _/_}
 use native.Mathlib.Nat.{add-zero, add-assoc}
 use native.Mathlib.Omega.{arith}
 use lib.ListN.{length, getD}
+use Rattle.num.specs.Sum.{sumFrom}
 use Rattle.summary.specs.Summary.{plusOf, litterCountsOf, countsFrom, countsOf}
 use Rattle.archive.specs.declared.counts.Counts.{Counts}
 use Rattle.archive.specs.Layout.{groupIn, successesIn, totalIn}
@@ -28,12 +29,12 @@ module _ (s t g : ℕ) (ls : List ℕ) where
   next-group i = let e : 3 * (i + 1) + 2 ≡ suc (suc (suc (3 * i + 2))) = omega arith in rw e
 
   one-on : (asked m i : ℕ) → countsFrom (s ∷ t ∷ g ∷ ls) asked m (i + 1) ≡ countsFrom ls asked m i
-  unfolding countsFrom
+  unfolding sumFrom
   one-on asked zero i = refl
   one-on asked (suc m) i = rw (next-successes i, next-total i, next-group i, one-on asked m (i + 1))
 
   counts-cons : (asked : ℕ) → countsOf (s ∷ t ∷ g ∷ ls) asked ≡ plusOf (litterCountsOf asked s t g) (countsOf ls asked)
-  unfolding countsOf countsFrom
+  unfolding countsOf sumFrom
   counts-cons asked =
       let e : suc (suc (suc (length ls))) / 3 ≡ suc (length ls / 3) = omega arith in
       rw (e, one-on asked (length ls / 3) 0)
@@ -46,7 +47,7 @@ both-assoc : (a b d : Counts) → bothOf (bothOf a b) d ≡ bothOf a (bothOf b d
 both-assoc a b d = simp add-assoc
 
 both-none : (a : Counts) → a ≡ bothOf a (countedOf [])
-unfolding countedOf countsOf countsFrom
+unfolding countedOf countsOf sumFrom
 both-none a = simp add-zero
 
 module _ (b : List ℕ) where

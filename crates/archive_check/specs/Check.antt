@@ -1,8 +1,9 @@
 -- The full check, litter by litter: each is valid, and where a full 64 litters end, the totals there are what was counted up to there.
 use mathlib.Core.Bool.{Bool, true, _&&_, cond}
 use mathlib.Core.List.{List}
-use Prim.Native.Nat.{ℕ, zero, suc, _-_, _/_, _%_}
+use Prim.Native.Nat.{ℕ, suc, _-_, _/_, _%_}
 use lib.Dec.{eqb}
+use Rattle.num.specs.Every.{everyFrom}
 use Rattle.summary.specs.declared.GroupCounts.{GroupCounts}
 use Rattle.archive.specs.declared.counts.Counts.{Counts}
 use Rattle.archive.specs.Layout.{validOf, countIn, shapedOf}
@@ -21,10 +22,5 @@ totalsHoldOf b i c = cond (eqb (i % 64) 0) (sameOf c (totalsIn b (countIn b) (i 
 unfoldable pub holdsAt : List ℕ → ℕ → Bool
 holdsAt b i = validOf b i && totalsHoldOf b (suc i) (countsTo b (suc i))
 
--- k litters from the i-th on
-unfoldable pub holdsFrom : List ℕ → ℕ → ℕ → Bool
-holdsFrom b zero i = true
-holdsFrom b (suc k) i = holdsAt b i && holdsFrom b k (suc i)
-
 unfoldable pub checkOf : List ℕ → Bool
-checkOf b = shapedOf b && holdsFrom b (countIn b) 0
+checkOf b = shapedOf b && everyFrom (holdsAt b) (countIn b) 0

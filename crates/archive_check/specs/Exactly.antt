@@ -2,19 +2,20 @@
 use mathlib.Core.Path.{_≡_, refl, sym, ap, _∙_}
 use mathlib.Core.Bool.{true, _&&_}
 use mathlib.Core.List.{List}
-use Prim.Native.Nat.{ℕ, zero, suc, _+_, _-_, _*_, _/_, _%_, _<_, _≤_}
+use Prim.Native.Nat.{ℕ, suc, _+_, _-_, _*_, _/_, _%_, _<_}
 use native.Mathlib.Omega.{arith}
-use borrow.Author.Tests.{eqb-true, eq-eqb, ltb-true, ltb-false}
+use borrow.Author.Tests.{eqb-true, eq-eqb}
 use borrow.Table.Steps.{cases}
-use lib.Dec.{eqb, ltb}
-use Rattle.num.specs.Both.{and-left, and-right, and-both}
+use lib.Dec.{eqb}
+use Rattle.num.specs.Both.{and-left, and-right, and-both, and-four}
+use Rattle.num.specs.Every.{everyFrom, each-passes, all-pass}
 use Rattle.summary.specs.declared.GroupCounts.{GroupCounts}
 use Rattle.archive.specs.declared.counts.Counts.{Counts}
 use Rattle.archive.specs.Layout.{validOf, countIn, shapedOf}
 use Rattle.archive.specs.Shaped.{shape-holds, shape-is}
 use Rattle.archive.specs.Counts.{totalsIn, countsTo}
 use Rattle.archive.specs.Right.{Right}
-use Rattle.archive_check.specs.Check.{sameGroupOf, sameOf, totalsHoldOf, holdsAt, holdsFrom, checkOf}
+use Rattle.archive_check.specs.Check.{sameGroupOf, sameOf, totalsHoldOf, holdsAt, checkOf}
 
 -- ---- counts that are the same by their eight numbers
 
@@ -25,12 +26,11 @@ group-same a b h =
     let y = eqb (a .successes) (b .successes) in
     let z = eqb (a .trials) (b .trials) in
     let w = eqb (a .extreme) (b .extreme) in
-    let front = and-left (x && y) (z && w) h in
-    let back = and-right (x && y) (z && w) h in
-    let p = eqb-true (a .litters) (b .litters) (and-left x y front) in
-    let q = eqb-true (a .successes) (b .successes) (and-right x y front) in
-    let r = eqb-true (a .trials) (b .trials) (and-left z w back) in
-    let s = eqb-true (a .extreme) (b .extreme) (and-right z w back) in
+    let each = and-four x y z w h in
+    let p = eqb-true (a .litters) (b .litters) (each .0) in
+    let q = eqb-true (a .successes) (b .successes) (each .1) in
+    let r = eqb-true (a .trials) (b .trials) (each .2) in
+    let s = eqb-true (a .extreme) (b .extreme) (each .3) in
     λ j. record { litters = p j; successes = q j; trials = r j; extreme = s j }
 
 same : (a b : Counts) → sameOf a b ≡ true → a ≡ b
@@ -49,22 +49,6 @@ group-self a = rw (eq-eqb (a .litters) (a .litters) refl, eq-eqb (a .successes) 
 self : (a : Counts) → sameOf a a ≡ true
 unfolding sameOf
 self a = rw (group-self (a .first), group-self (a .second))
-
--- ---- litter by litter
-
-each : (b : List ℕ) (k i m : ℕ) → holdsFrom b k i ≡ true → i ≤ m → m < i + k → holdsAt b m ≡ true
-unfolding holdsFrom
-each b zero i m h l u = absurd (omega arith)
-each b (suc k) i m h l u =
-    cases
-    (ltb i m)
-    (λ e. each b k (suc i) m (and-right (holdsAt b i) (holdsFrom b k (suc i)) h) (ltb-true i m e) (omega arith))
-    (λ e. let q : i ≡ m = omega (arith, ltb-false i m e) in rw (← q) (and-left (holdsAt b i) (holdsFrom b k (suc i)) h))
-
-all : (b : List ℕ) (k i : ℕ) → ((m : ℕ) → i ≤ m → m < i + k → holdsAt b m ≡ true) → holdsFrom b k i ≡ true
-unfolding holdsFrom
-all b zero i f = refl
-all b (suc k) i f = and-both (holdsAt b i) (holdsFrom b k (suc i)) (f i (omega arith) (omega arith)) (all b k (suc i) (λ m l u. f m (omega arith) (omega arith)))
 
 -- ---- totals
 
@@ -86,9 +70,9 @@ module _ (b : List ℕ) where
   pub yes-right : checkOf b ≡ true → Right b
   unfolding checkOf holdsAt
   yes-right h =
-      let shape = and-left (shapedOf b) (holdsFrom b (countIn b) 0) h in
-      let holds = and-right (shapedOf b) (holdsFrom b (countIn b) 0) h in
-      let ok : (m : ℕ) → m < countIn b → (validOf b m && totalsHoldOf b (suc m) (countsTo b (suc m))) ≡ true = λ m l. each b (countIn b) 0 m holds (omega arith) (omega arith) in
+      let shape = and-left (shapedOf b) (everyFrom (holdsAt b) (countIn b) 0) h in
+      let holds = and-right (shapedOf b) (everyFrom (holdsAt b) (countIn b) 0) h in
+      let ok : (m : ℕ) → m < countIn b → (validOf b m && totalsHoldOf b (suc m) (countsTo b (suc m))) ≡ true = λ m l. each-passes (holdsAt b) (countIn b) 0 m holds (omega arith) (omega arith) in
       record {
         shape = shape-holds b shape;
         litters = λ i l. and-left (validOf b i) (totalsHoldOf b (suc i) (countsTo b (suc i))) (ok i l);
@@ -103,14 +87,14 @@ module _ (b : List ℕ) where
   unfolding checkOf holdsAt
   right-yes r =
       let holds =
-      all b (countIn b) 0
+      all-pass (holdsAt b) (countIn b) 0
       (λ m l u.
       and-both (validOf b m) (totalsHoldOf b (suc m) (countsTo b (suc m))) (r .litters m (omega arith))
       (total-holds b (suc m) (countsTo b (suc m))
       (λ z.
       let e : 64 * (suc m / 64 - 1 + 1) ≡ suc m = omega arith in
       r .totals (suc m / 64 - 1) (omega arith) ∙ ap (countsTo b) e))) in
-      and-both (shapedOf b) (holdsFrom b (countIn b) 0) (shape-is b (r .shape)) holds
+      and-both (shapedOf b) (everyFrom (holdsAt b) (countIn b) 0) (shape-is b (r .shape)) holds
 
   -- yes exactly for an archive that is right
   pub exactly : (checkOf b ≡ true → Right b) × (Right b → checkOf b ≡ true)

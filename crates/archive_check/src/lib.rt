@@ -5,7 +5,8 @@ ghost use mathlib.Core.Path.{_≡_};
 ghost use Prim.Native.Nat.{_≤_};
 ghost use Rattle.archive.specs.Layout.{countIn};
 ghost use Rattle.archive.specs.Shaped.{Shaped};
-ghost use Rattle.archive_check.specs.Check.{sameGroupOf, sameOf, totalsHoldOf, holdsFrom, checkOf};
+ghost use Rattle.num.specs.Every.{everyFrom};
+ghost use Rattle.archive_check.specs.Check.{sameGroupOf, sameOf, totalsHoldOf, holdsAt, checkOf};
 
 fn same_group(a: GroupCounts, b: GroupCounts) -> bool
     ensures { λ r. ⌜ r ≡ sameGroupOf a b ⌝ }
@@ -36,7 +37,7 @@ fn totals_hold(b: &[u8], i: usize, c: Counts) -> bool
 
 fn holds(b: &[u8], n: usize) -> bool
     requires { ⌜ Shaped (now b) × (n ≡ countIn (now b)) ⌝ }
-    ensures { λ r. ⌜ r ≡ holdsFrom (now (b .entry)) n 0 ⌝ }
+    ensures { λ r. ⌜ r ≡ everyFrom (holdsAt (now (b .entry))) n 0 ⌝ }
 {
     let mut c = archive::counts::none();
     let mut i = 0;

@@ -2,14 +2,15 @@
 use mathlib.Core.Path.{_≡_, refl, sym, ap, _∙_}
 use mathlib.Core.Bool.{Bool, true, false, _&&_}
 use mathlib.Core.List.{List, _++_}
-use Prim.Native.Nat.{ℕ, zero, suc, _+_, _-_, _*_, _/_, _%_, _<_, _≤_}
+use Prim.Native.Nat.{ℕ, zero, suc, _+_, _-_, _*_, _/_, _%_, _≤_}
 use native.Mathlib.Nat.{zero-add}
 use native.Mathlib.Omega.{arith}
 use borrow.Author.Tests.{leb-true}
 use lib.Dec.{leb}
 use lib.ListN.{length}
-use Rattle.num.specs.Both.{and-left, and-right}
-use Rattle.num.specs.Left.{left-one, left-none}
+use Rattle.num.specs.Both.{and-left, and-right, and-four}
+use Rattle.num.specs.Every.{everyFrom}
+use Rattle.num.specs.Fold.{foldFrom}
 use Rattle.summary.specs.declared.GroupCounts.{GroupCounts}
 use Rattle.archive.specs.declared.counts.Counts.{Counts}
 use Rattle.archive.specs.declared.Outcome.the-variants.{Answered, InvalidInput, Form}
@@ -25,51 +26,37 @@ use Rattle.archive_range.specs.Range.{fitsOf, groupWithinOf, withinOf, g
 start-left : (p : ℕ) → p - 64 * (p / 64) ≡ p % 64
 start-left p = omega arith
 
-valid-after : (b : List ℕ) (q k i : ℕ) → validReadsOf b (littersFrom k i) ≡ validReadsOf b (lastTotal q ++ littersFrom k i)
+-- the litters that are read, as a loop takes them
+valid-litters : (b : List ℕ) (k i : ℕ) → everyFrom (validOf b) k i ≡ validReadsOf b (littersFrom k i)
+unfolding everyFrom littersFrom validReadsOf
+valid-litters b zero i = refl
+valid-litters b (suc k) i = rw (valid-litters b k (i + 1))
+
+valid-after : (b : List ℕ) (q k i : ℕ) → everyFrom (validOf b) k i ≡ validReadsOf b (lastTotal q ++ littersFrom k i)
 unfolding lastTotal validReadsOf
-valid-after b zero k i = refl
-valid-after b (suc j) k i = refl
+valid-after b zero k i = valid-litters b k i
+valid-after b (suc j) k i = valid-litters b k i
 
-module _ (b : List ℕ) (p : ℕ) where
-  pub valid-begin : validReadsOf b (littersFrom (p - 64 * (p / 64)) (64 * (p / 64))) ≡ validReadsOf b (readsOf p)
-  unfolding readsOf
-  valid-begin = rw (start-left p) (valid-after b (p / 64) (p % 64) (64 * (p / 64)))
+pub valid-begin : (b : List ℕ) (p : ℕ) → everyFrom (validOf b) (p - 64 * (p / 64)) (64 * (p / 64)) ≡ validReadsOf b (readsOf p)
+unfolding readsOf
+valid-begin b p = rw (start-left p) (valid-after b (p / 64) (p % 64) (64 * (p / 64)))
 
-  module _ (i : ℕ) (v : validReadsOf b (littersFrom (p - i) i) ≡ validReadsOf b (readsOf p)) where
-    pub valid-stops : (t : Bool) → i < p → t ≡ validOf b i → t ≡ false → false ≡ validReadsOf b (readsOf p)
-    unfolding littersFrom validReadsOf
-    valid-stops t h e f =
-        let w : (validOf b i && validReadsOf b (littersFrom (p - (i + 1)) (i + 1))) ≡ validReadsOf b (readsOf p) = rw (left-one p i h) at v in
-        rw (← e, f) at w
+abbrev pub withLitter : List ℕ → ℕ → Counts → Counts
+withLitter b i c = bothOf c (litterIn b i)
 
-    pub valid-goes : (t : Bool) → i < p → t ≡ validOf b i → t ≡ true → validReadsOf b (littersFrom (p - (i + 1)) (i + 1)) ≡ validReadsOf b (readsOf p)
-    unfolding littersFrom validReadsOf
-    valid-goes t h e f =
-        let w : (validOf b i && validReadsOf b (littersFrom (p - (i + 1)) (i + 1))) ≡ validReadsOf b (readsOf p) = rw (left-one p i h) at v in
-        rw (← e, f) at w
+summed-litters : (b : List ℕ) (k i : ℕ) (c : Counts) → foldFrom (withLitter b) k i c ≡ summed b c (littersFrom k i)
+unfolding foldFrom littersFrom summed
+summed-litters b zero i c = refl
+summed-litters b (suc k) i c = summed-litters b k (i + 1) (withLitter b i c)
 
-    pub valid-done : p ≤ i → true ≡ validReadsOf b (readsOf p)
-    unfolding littersFrom validReadsOf
-    valid-done h = rw (left-none p i h) at v
-
-summed-after : (b : List ℕ) (c : Counts) (q k i : ℕ) → c ≡ summed b none (lastTotal q) → summed b c (littersFrom k i) ≡ summed b none (lastTotal q ++ littersFrom k i)
+summed-after : (b : List ℕ) (c : Counts) (q k i : ℕ) → c ≡ summed b none (lastTotal q) → foldFrom (withLitter b) k i c ≡ summed b none (lastTotal q ++ littersFrom k i)
 unfolding lastTotal summed
-summed-after b c zero k i e = rw e
-summed-after b c (suc j) k i e = rw e
+summed-after b c zero k i e = summed-litters b k i c ∙ ap (λ d. summed b d (littersFrom k i)) e
+summed-after b c (suc j) k i e = summed-litters b k i c ∙ ap (λ d. summed b d (littersFrom k i)) e
 
-module _ (b : List ℕ) (p : ℕ) (c : Counts) where
-  pub sum-begin : c ≡ summed b none (lastTotal (p / 64)) → summed b c (littersFrom (p - 64 * (p / 64)) (64 * (p / 64))) ≡ runningOf b p
-  unfolding runningOf readsOf
-  sum-begin e = rw (start-left p) (summed-after b c (p / 64) (p % 64) (64 * (p / 64)) e)
-
-  module _ (i : ℕ) (v : summed b c (littersFrom (p - i) i) ≡ runningOf b p) where
-    pub sum-turn : (d : Counts) → i < p → d ≡ bothOf c (litterIn b i) → summed b d (littersFrom (p - (i + 1)) (i + 1)) ≡ runningOf b p
-    unfolding littersFrom summed
-    sum-turn d h e = rw e (rw (left-one p i h) at v)
-
-    pub sum-done : p ≤ i → c ≡ runningOf b p
-    unfolding littersFrom summed
-    sum-done h = rw (left-none p i h) at v
+pub sum-begin : (b : List ℕ) (p : ℕ) (c : Counts) → c ≡ summed b none (lastTotal (p / 64)) → foldFrom (withLitter b) (p - 64 * (p / 64)) (64 * (p / 64)) c ≡ runningOf b p
+unfolding runningOf readsOf
+sum-begin b p c e = rw (start-left p) (summed-after b c (p / 64) (p % 64) (64 * (p / 64)) e)
 
 -- ---- the last totals
 
@@ -95,13 +82,12 @@ under a b h =
     let y = leb (a .successes) (b .successes) in
     let z = leb (a .trials) (b .trials) in
     let w = leb (a .extreme) (b .extreme) in
-    let front = and-left (x && y) (z && w) h in
-    let back = and-right (x && y) (z && w) h in
+    let each = and-four x y z w h in
     record {
-      litters = leb-true (a .litters) (b .litters) (and-left x y front);
-      successes = leb-true (a .successes) (b .successes) (and-right x y front);
-      trials = leb-true (a .trials) (b .trials) (and-left z w back);
-      extreme = leb-true (a .extreme) (b .extreme) (and-right z w back);
+      litters = leb-true (a .litters) (b .litters) (each .0);
+      successes = leb-true (a .successes) (b .successes) (each .1);
+      trials = leb-true (a .trials) (b .trials) (each .2);
+      extreme = leb-true (a .extreme) (b .extreme) (each .3);
     }
 
 pub both-under : (a b : Counts) (s t : Bool) → t ≡ (s && withinOf a b) → t ≡ true → Under (a .first) (b .first) × Under (a .second) (b .second)

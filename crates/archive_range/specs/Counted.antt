@@ -8,9 +8,10 @@ use native.Mathlib.Numerals.{add-one}
 use native.Mathlib.Omega.{arith}
 use borrow.Author.Tests.{le-leb}
 use Rattle.num.specs.Both.{and-both}
+use Rattle.num.specs.Sum.{sumFrom}
 use Rattle.summary.specs.declared.GroupCounts.{GroupCounts}
 use Rattle.summary.specs.Most.{Most}
-use Rattle.summary.specs.Summary.{plusOf, countsFrom, countsOf}
+use Rattle.summary.specs.Summary.{plusOf, countsOf}
 use Rattle.archive.specs.declared.Outcome.the-variants.{Answered}
 use Rattle.archive.specs.declared.counts.Counts.{Counts}
 use Rattle.archive.specs.Layout.{validOf, countIn}
@@ -134,5 +135,5 @@ module _ (b : List ℕ) (r : Right b) where
       rw (shape-is b (r .shape), le-leb from to h, le-leb to (countIn b) l, valid-reads b r from low, valid-reads b r to l, running-is b r from low, running-is b r to l) d
 
   pub empty-range : (p : ℕ) → p ≤ countIn b → betweenOf b p p ≡ answered none
-  unfolding numbersFrom countedOf countsOf countsFrom
+  unfolding numbersFrom countedOf countsOf sumFrom
   empty-range p l = let e : p - p ≡ 0 = omega arith in rw e at (range-counted p p (omega arith) l)

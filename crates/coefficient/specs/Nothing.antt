@@ -2,7 +2,7 @@
 use mathlib.Core.Path.{_≡_, refl, sym, _∙_}
 use mathlib.Core.Bool.{true, false}
 use mathlib.Core.Logic.{_⊎_, inl, inr}
-use Prim.Native.Nat.{ℕ, zero, suc, _-_, _*_, _≤_, _<_}
+use Prim.Native.Nat.{ℕ, zero, suc, _*_, _≤_, _<_}
 use native.Mathlib.Nat.{mul-pos, le-refl, sub-self, sub-zero, zero-mul}
 use native.Mathlib.Omega.{arith}
 use borrow.Author.Tests.{lt-ltb, le-ltb}
@@ -14,6 +14,8 @@ use lib.Ieee.Scale.{round-same}
 use lib.Ieee.Positive.{positive}
 use Rattle.num.specs.F64.{_⊖_, zero·}
 use Rattle.num.specs.Helpers.{maxOf, minOf}
+use Rattle.order.specs.Rounding.{round-zero}
+use Rattle.order.specs.Zeros.{zero-less-zero}
 use Rattle.factorial.specs.Computed.{at-0, at-1}
 use Rattle.factorial.specs.Above.{log-factorial-above}
 use Rattle.coefficient.specs.Coefficient.{coefficientOf}
@@ -32,20 +34,12 @@ module _ (m : ℕ) (e : ℤ) (p : 0 < m) where
   unfolding minOf maxOf lt neg ofBits
   smaller = rw (zero-mul (down e), le-ltb (m * up e * 1) 0 (omega arith), lt-ltb 0 (m * up e * 1) size)
 
-zero-rounded : round binary64 false 0 1 ≡ zero·
-unfolding round ofBits
-zero-rounded = refl
-
 less-itself : (m : ℕ) (e : ℤ) → fin false m e ⊖ fin false m e ≡ zero·
 unfolding sub add neg sum
 less-itself m e =
     let a = m * up e * down e in
     let c = down e * down e in
-    rw (le-ltb a a (le-refl a), sub-self a) (round-same binary64 false 0 c 0 1 (mul-pos (down-pos e) (down-pos e)) (lit< tt) (sym (zero-mul c)) ∙ zero-rounded)
-
-zero-less-zero : zero· ⊖ zero· ≡ zero·
-unfolding sub add neg sum round ofBits
-zero-less-zero = refl
+    rw (le-ltb a a (le-refl a), sub-self a) (round-same binary64 false 0 c 0 1 (mul-pos (down-pos e) (down-pos e)) (lit< tt) (sym (zero-mul c)) ∙ round-zero)
 
 less-both : (x : Float) → T (positive x) → x ⊖ maxOf zero· x ⊖ minOf zero· x ≡ zero·
 less-both nan p = absurd p

@@ -5,8 +5,9 @@ use Prim.Native.Nat.{ℕ, _-_, _<_}
 use lib.ListN.{getD}
 use lib.Ieee.{Float, nan, neg}
 use Rattle.num.specs.F64.{whole}
-use Rattle.lanes.specs.Lanes.{values, nth}
-use Rattle.lanes.specs.Filled.{at-place, same-values}
+use Rattle.num.specs.Values.{values}
+use Rattle.num.specs.Filled.{at-place, same-values}
+use Rattle.lanes.specs.Lanes.{nth}
 use Rattle.normal.specs.declared.moments.ConditionalLog.{ConditionalLog}
 use Rattle.normal.specs.Normal.{normalCentre, normalOf}
 use Rattle.normal.specs.Conditional.{conditionalOf}

@@ -6,12 +6,13 @@ use Prim.Native.Nat.{ℕ, _<_}
 use lib.ListN.{getD}
 use lib.Ieee.{Float, nan, binary64, neg}
 use Rattle.num.specs.F64.{_⊖_, _⊗_, _⊘_, half·}
+use Rattle.num.specs.Values.{values}
+use Rattle.num.specs.Filled.{at-place, same-values, own-values}
 use Rattle.order.specs.Quotients.{neg-div}
 use Rattle.elementary.specs.Exp.{expOf}
 use Rattle.elementary.specs.Log.{logOf}
 use Rattle.elementary.specs.Erfc.{erfcOf, erfcPosOf}
-use Rattle.lanes.specs.Lanes.{values, nth, erfcsOf, expsOf, logsOf}
-use Rattle.lanes.specs.Filled.{at-place, same-values, own-values}
+use Rattle.lanes.specs.Lanes.{nth, erfcsOf, expsOf, logsOf}
 use Rattle.normal.specs.declared.mills.LogMills.{LogMills}
 use Rattle.normal.specs.Normal.{logPhiOf, sqrt-two, fractionOf, normalTail}
 use Rattle.normal.specs.Twins.{sizeOf, byCdfOf}

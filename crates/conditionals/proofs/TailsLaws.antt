@@ -2,21 +2,21 @@
 use mathlib.Core.Path.{_≡_, refl, sym}
 use mathlib.Core.Bool.{Bool, true, false, _||_}
 use mathlib.Core.List.{List}
-use Prim.Native.Nat.{ℕ, zero, suc, _+_, _-_, _≤_, _<_}
+use Prim.Native.Nat.{ℕ, zero, suc, _+_, _-_, _<_}
 use native.Mathlib.Nat.{add-zero, zero-add, not-suc-le-zero, le-of-suc-le-suc}
 use native.Mathlib.Omega.{arith}
 use lib.ListN.{length, getD}
 use lib.Ieee.{Float, nan, neg, lt}
 use Rattle.num.specs.Both.{or-left, or-right}
 use Rattle.num.specs.F64.{_⊕_, _⊘_, whole, eight·}
-use Rattle.num.specs.Left.{left-one, left-none}
-use Rattle.lanes.specs.Lanes.{values}
-use Rattle.lanes.specs.Filled.{at-place, same-values, own-values}
+use Rattle.num.specs.Sum.{sumFrom}
+use Rattle.num.specs.Values.{values}
+use Rattle.num.specs.Filled.{at-place, same-values, own-values}
 use Rattle.normal.specs.declared.mills.LogMills.{LogMills}
 use Rattle.normal.specs.Normal.{fractionFrom, fraction-step}
 use Rattle.conditionals.specs.declared.normals.Ratios.{Ratios}
 use Rattle.conditionals.specs.Normals.{acrossOf}
-use Rattle.conditionals.specs.Tails.{deeperOf, fractionsOf, beyondFrom, beyondOf, tailsAt, tailsOf}
+use Rattle.conditionals.specs.Tails.{deeperOf, fractionsOf, beyondAt, beyondOf, tailsAt, tailsOf}
 
 -- ---- the fractions
 module _ (t f : List Float) (k : ℕ) where
@@ -37,28 +37,19 @@ module _ (t f : List Float) (k : ℕ) where
   fractions-end n z v = rw (z, own-values f nan n) at v
 
 -- ---- whether one lies beyond
-or-assoc : (a b c : Bool) → ((a || b) || c) ≡ (a || (b || c))
+pub or-assoc : (a b c : Bool) → ((a || b) || c) ≡ (a || (b || c))
 or-assoc true b c = refl
 or-assoc false b c = refl
 
-or-false : (a : Bool) → (a || false) ≡ a
+pub or-false : (a : Bool) → (a || false) ≡ a
 or-false true = refl
 or-false false = refl
 
-module _ (x : List Float) (any : Bool) (i : ℕ) (v : (any || beyondFrom x (16 - i) i) ≡ beyondOf x) where
-  pub beyond-turn : (r : Bool) → i < 16 → r ≡ (any || lt (getD x i nan) (neg eight·)) → (r || beyondFrom x (16 - (i + 1)) (i + 1)) ≡ beyondOf x
-  unfolding beyondFrom
-  beyond-turn r l e = rw (e, or-assoc) (rw (left-one 16 i l) at v)
-
-  pub beyond-end : 16 ≤ i → any ≡ beyondOf x
-  unfolding beyondFrom
-  beyond-end l = rw (left-none 16 i l, or-false) at v
-
-none-from : (x : List Float) (n i : ℕ) → beyondFrom x n i ≡ false → (j : ℕ) → j < n → lt (getD x (i + j) nan) (neg eight·) ≡ false
-unfolding beyondFrom
+none-from : (x : List Float) (n i : ℕ) → sumFrom _||_ false (beyondAt x) n i ≡ false → (j : ℕ) → j < n → beyondAt x (i + j) ≡ false
+unfolding sumFrom
 none-from x zero i e j l = absurd (not-suc-le-zero l)
-none-from x (suc n) i e zero l = rw (add-zero i) (or-left (lt (getD x i nan) (neg eight·)) (beyondFrom x n (i + 1)) e)
-none-from x (suc n) i e (suc j) l = let s : i + 1 + j ≡ i + suc j = omega arith in rw (← s) (none-from x n (i + 1) (or-right (lt (getD x i nan) (neg eight·)) (beyondFrom x n (i + 1)) e) j (le-of-suc-le-suc l))
+none-from x (suc n) i e zero l = rw (add-zero i) (or-left (beyondAt x i) (sumFrom _||_ false (beyondAt x) n (i + 1)) e)
+none-from x (suc n) i e (suc j) l = let s : i + 1 + j ≡ i + suc j = omega arith in rw (← s) (none-from x n (i + 1) (or-right (beyondAt x i) (sumFrom _||_ false (beyondAt x) n (i + 1)) e) j (le-of-suc-le-suc l))
 
 pub none-beyond : (x : List Float) → beyondOf x ≡ false → (j : ℕ) → j < 16 → lt (getD x j nan) (neg eight·) ≡ false
 unfolding beyondOf

@@ -5,7 +5,7 @@ use Prim.Native.Nat.{ℕ}
 use lib.ListN.{getD}
 use lib.Ieee.{Float, nan, neg}
 use Rattle.num.specs.F64.{_⊗_, half·, one·}
-use Rattle.lanes.specs.Lanes.{values}
+use Rattle.num.specs.Values.{values}
 use Rattle.normal.specs.declared.moments.ConditionalLog.{ConditionalLog}
 use Rattle.normal.specs.Conditional.{millsDerivativesOf, combinedOf, conditionalOf}
 use Rattle.conditionals.specs.declared.normals.Ratios.{Ratios}

@@ -5,8 +5,9 @@ use Prim.Native.Nat.{ℕ}
 use lib.ListN.{getD}
 use lib.Ieee.{Float, nan, neg, lt}
 use Rattle.num.specs.F64.{_⊖_, _⊗_, _⊘_, half·, eight·}
+use Rattle.num.specs.Values.{values}
 use Rattle.elementary.specs.Erfc.{erfcOf}
-use Rattle.lanes.specs.Lanes.{values, nth}
+use Rattle.lanes.specs.Lanes.{nth}
 use Rattle.normal.specs.declared.mills.LogMills.{LogMills}
 use Rattle.normal.specs.Normal.{logPhiOf, sqrt-two, normalTail}
 use Rattle.normal.specs.Twins.{sizeOf, byCdfOf}

@@ -1,12 +1,14 @@
 -- The far tail at sixteen places.
 use mathlib.Core.Bool.{Bool, false, cond, _||_}
 use mathlib.Core.List.{List}
-use Prim.Native.Nat.{ℕ, zero, suc, _+_}
+use Prim.Native.Nat.{ℕ}
 use lib.ListN.{getD}
 use lib.Ieee.{Float, nan, neg, lt}
 use Rattle.num.specs.F64.{_⊕_, _⊖_, _⊘_, eight·}
+use Rattle.num.specs.Sum.{sumFrom}
+use Rattle.num.specs.Values.{values}
 use Rattle.elementary.specs.Log.{logOf}
-use Rattle.lanes.specs.Lanes.{values, nth}
+use Rattle.lanes.specs.Lanes.{nth}
 use Rattle.normal.specs.declared.mills.LogMills.{LogMills}
 use Rattle.normal.specs.Normal.{fractionOf, logPhiOf}
 use Rattle.conditionals.specs.declared.normals.Ratios.{Ratios}
@@ -18,13 +20,13 @@ deeperOf t f term = values (λ i. term ⊘ (getD t i nan ⊕ getD f i nan)) 16 0
 unfoldable pub fractionsOf : List Float → List Float
 fractionsOf t = values (nth fractionOf t) 16 0
 
--- whether one of n places from place i on lies beyond -8
-unfoldable pub beyondFrom : List Float → ℕ → ℕ → Bool
-beyondFrom x zero i = false
-beyondFrom x (suc n) i = lt (getD x i nan) (neg eight·) || beyondFrom x n (i + 1)
+-- whether place i lies beyond -8
+abbrev pub beyondAt : List Float → ℕ → Bool
+beyondAt x i = lt (getD x i nan) (neg eight·)
 
+-- whether one of sixteen does
 unfoldable pub beyondOf : List Float → Bool
-beyondOf x = beyondFrom x 16 0
+beyondOf x = sumFrom _||_ false (beyondAt x) 16 0
 
 -- beyond -8 by the fraction, else what is there
 abbrev pub tailAtOf : Float → Float → Float → Float → LogMills

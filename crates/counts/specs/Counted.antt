@@ -2,12 +2,14 @@
 use mathlib.Core.Path.{_≡_, sym, ap, _∙_}
 use mathlib.Core.Bool.{cond}
 use mathlib.Core.List.{List}
-use Prim.Native.Nat.{ℕ, zero, suc, _+_, _-_, _≤_}
+use Prim.Native.Nat.{ℕ, zero, suc, _+_, _≤_}
 use native.Mathlib.Nat.{add-zero, zero-add}
 use native.Mathlib.Omega.{arith}
 use borrow.Author.Tests.{lt-ltb}
 use lib.ListN.{length}
 use lib.Ieee.{Float}
+use Rattle.num.specs.Fold.{foldFrom}
+use Rattle.num.specs.Sum.{sumFrom}
 use Rattle.elementary.specs.Log.{logOf}
 use Rattle.elementary.specs.Exp.{expOf}
 use Rattle.work.specs.Ended.{Ended, done, stopped, domain}
@@ -32,7 +34,7 @@ rise-most shape (suc n) k s = asks (λ l. rise-most shape n (k + 1) (raised s (t
 
 module _ (shape log-rate : Float) (cs : List ℕ) (es : List Float) where
   rows-most : (n i : ℕ) (v : Planar) → AtMost (eventsFrom cs n i) (rows shape log-rate cs es n i v)
-  unfolding rows eventsFrom
+  unfolding rows sumFrom
   rows-most zero i v = either (finiteOf v) rets stops
   rows-most (suc n) i v = both (eventsFrom cs n (i + 1)) (rise-most shape (countAt cs i) 0 noRising) (λ s. rows-most n (i + 1) (rowOf v shape log-rate (countAt cs i) (exposureAt es i) s))
 
@@ -47,7 +49,7 @@ testedOf v = cond (finiteOf v) (done v) (stopped (domain 6))
 
 module _ (l : ℕ) where
   rises : (shape : Float) (n k u : ℕ) (s : Rising) → u + n ≤ l → metered logOf l u (rise shape n k s) ≡ record { ended = done (risingFrom shape n k s); used = u + n }
-  unfolding rise risingFrom metered
+  unfolding rise foldFrom metered
   rises shape zero k u s h = rw (add-zero u)
   rises shape (suc n) k u s h =
       let e : u + 1 + n ≡ u + suc n = omega arith in
@@ -59,7 +61,7 @@ module _ (l : ℕ) where
 
   module _ (shape log-rate : Float) (cs : List ℕ) (es : List Float) where
     sums : (n i u : ℕ) (v : Planar) → u + eventsFrom cs n i ≤ l → metered logOf l u (rows shape log-rate cs es n i v) ≡ record { ended = testedOf (rowsFrom shape log-rate cs es n i v); used = u + eventsFrom cs n i }
-    unfolding rows rowsFrom eventsFrom withRowOf risenOf
+    unfolding rows foldFrom sumFrom withRowOf risenOf
     sums zero i u v h = rw (add-zero u) (tests u v)
     sums (suc n) i u v h =
         let c = countAt cs i in

@@ -4,6 +4,7 @@ use mathlib.Core.List.{List}
 use Prim.Native.Nat.{ℕ, zero, suc, _+_}
 use lib.ListN.{length}
 use lib.Ieee.{Float}
+use Rattle.num.specs.Fold.{foldFrom}
 use Rattle.num.specs.Helpers.{isFiniteOf}
 use Rattle.elementary.specs.Exp.{expOf}
 use Rattle.work.specs.Ended.{domain}
@@ -29,9 +30,11 @@ evaluate x y cs es = rows (expOf x) y cs es (length cs) 0 noPlanar
 
 -- ---- as code has it
 
-unfoldable pub rowsFrom : Float → Float → List ℕ → List Float → ℕ → ℕ → Planar → Planar
-rowsFrom shape log-rate cs es zero i v = v
-rowsFrom shape log-rate cs es (suc n) i v = rowsFrom shape log-rate cs es n (i + 1) (withRowOf v shape log-rate (countAt cs i) (exposureAt es i))
+abbrev pub withRowAt : Float → Float → List ℕ → List Float → ℕ → Planar → Planar
+withRowAt shape log-rate cs es i v = withRowOf v shape log-rate (countAt cs i) (exposureAt es i)
+
+abbrev pub rowsFrom : Float → Float → List ℕ → List Float → ℕ → ℕ → Planar → Planar
+rowsFrom shape log-rate cs es n i v = foldFrom (withRowAt shape log-rate cs es) n i v
 
 unfoldable pub totalsOf : Float → Float → List ℕ → List Float → Planar
 totalsOf x y cs es = rowsFrom (expOf x) y cs es (length cs) 0 noPlanar

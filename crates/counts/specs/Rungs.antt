@@ -10,9 +10,10 @@ use lib.Dec.{ltb}
 use lib.ListN.{length, getD, set, length-set}
 use lib.Seq.{getD-set-same, getD-set-other}
 use lib.Ieee.{Float, nan}
+use Rattle.num.specs.Fold.{foldFrom, fold-parts}
 use Rattle.exposure.specs.Rows.{countAt}
 use Rattle.counts.specs.declared.share.Rising.{Rising}
-use Rattle.counts.specs.Share.{noRising, termAt, passedOf, risingFrom, risenOf}
+use Rattle.counts.specs.Share.{noRising, termAt, passedOf, passOf, risingFrom, risenOf}
 
 unfoldable pub lesserOf : ℕ → ℕ → ℕ
 lesserOf a b = cond {A = ℕ} (ltb a b) a b
@@ -20,13 +21,12 @@ lesserOf a b = cond {A = ℕ} (ltb a b) a b
 unfoldable pub largerOf : ℕ → ℕ → ℕ
 largerOf a b = cond {A = ℕ} (ltb a b) b a
 
--- of n counts from the i-th on, and of those before them
-unfoldable pub largestFrom : List ℕ → ℕ → ℕ → ℕ → ℕ
-largestFrom cs zero i most = most
-largestFrom cs (suc n) i most = largestFrom cs n (i + 1) (largerOf most (countAt cs i))
+-- the largest so far and the i-th count
+abbrev pub withCountOf : List ℕ → ℕ → ℕ → ℕ
+withCountOf cs i most = largerOf most (countAt cs i)
 
 unfoldable pub largestOf : List ℕ → ℕ
-largestOf cs = largestFrom cs (length cs) 0 0
+largestOf cs = foldFrom (withCountOf cs) (length cs) 0 0
 
 -- ---- a rung
 
@@ -79,36 +79,25 @@ module _ (l : List Float) (j : ℕ) (s : Rising) where
 
 -- ---- the loop in two parts
 
-pub rising-parts : (shape : Float) (a b k : ℕ) (s : Rising) → risingFrom shape (a + b) k s ≡ risingFrom shape b (k + a) (risingFrom shape a k s)
-unfolding risingFrom
-rising-parts shape zero b k s =
-    let e : zero + b ≡ b = omega arith in
-    let f : k + zero ≡ k = omega arith in
-    rw (e, f)
-rising-parts shape (suc a) b k s =
-    let e : suc a + b ≡ suc (a + b) = omega arith in
-    let f : k + suc a ≡ k + 1 + a = omega arith in
-    rw (e, f) (rising-parts shape a b (k + 1) (passedOf s (termAt shape k)))
-
 -- a row's sums from those of a smaller count
 pub rising-on : (shape : Float) (n k : ℕ) → k ≤ n → risingFrom shape (n - k) k (risenOf shape k) ≡ risenOf shape n
 unfolding risenOf
 rising-on shape n k h =
     let e : k + (n - k) ≡ n = omega arith in
     let f : 0 + k ≡ k = omega arith in
-    (rw f at (sym (rising-parts shape k (n - k) 0 noRising))) ∙ ap (λ m. risingFrom shape m 0 noRising) e
+    (rw f at (sym (fold-parts (passOf shape) k (n - k) 0 noRising))) ∙ ap (λ m. risingFrom shape m 0 noRising) e
 
 pub rising-next : (shape : Float) (k : ℕ) → passedOf (risenOf shape k) (termAt shape k) ≡ risenOf shape (k + 1)
-unfolding risingFrom risenOf
+unfolding foldFrom risenOf
 rising-next shape k =
     let f : 0 + k ≡ k = omega arith in
-    rw f at (sym (rising-parts shape k 1 0 noRising))
+    rw f at (sym (fold-parts (passOf shape) k 1 0 noRising))
 
 -- ---- the table filled
 
 module _ (shape : Float) (l m : List Float) (s : Rising) where
   none-held : s ≡ noRising → length l ≡ 192 → m ≡ setRungOf l 0 s → (j : ℕ) → j ≤ 0 → rungAtOf m j ≡ risenOf shape j
-  unfolding risingFrom risenOf
+  unfolding foldFrom risenOf
   none-held z n e zero h = rw e (rung-set l 0 s (omega arith) ∙ z)
   none-held z n e (suc j) h = absurd (omega arith)
 

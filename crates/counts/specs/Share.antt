@@ -2,6 +2,7 @@
 use mathlib.Core.Bool.{cond}
 use Prim.Native.Nat.{ℕ, zero, suc, _+_}
 use lib.Ieee.{Float, neg, lt}
+use Rattle.num.specs.Fold.{foldFrom}
 use Rattle.num.specs.F64.{_⊕_, _⊖_, _⊗_, _⊘_, whole, zero·, one·}
 use Rattle.elementary.specs.Log.{logOf}
 use Rattle.elementary.specs.Exp.{expOf}
@@ -64,9 +65,11 @@ oddsWithOf log-q log-p = record { logq = log-q; logp = log-p; p = expOf (neg log
 abbrev pub passedOf : Rising → Float → Rising
 passedOf s term = raised s term (logOf term)
 
-unfoldable pub risingFrom : Float → ℕ → ℕ → Rising → Rising
-risingFrom shape zero k s = s
-risingFrom shape (suc n) k s = risingFrom shape n (k + 1) (passedOf s (termAt shape k))
+abbrev pub passOf : Float → ℕ → Rising → Rising
+passOf shape k s = passedOf s (termAt shape k)
+
+abbrev pub risingFrom : Float → ℕ → ℕ → Rising → Rising
+risingFrom shape n k s = foldFrom (passOf shape) n k s
 
 unfoldable pub risenOf : Float → ℕ → Rising
 risenOf shape count = risingFrom shape count 0 noRising

@@ -10,6 +10,8 @@ use work::FitEvaluations;
 use work::Iterations;
 ghost use mathlib.Core.Path.{_≡_};
 ghost use mathlib.Core.Bool.{true};
+ghost use Rattle.elementary.specs.Log.{logOf};
+ghost use Rattle.planar.specs.Planar.{amongFourOf};
 ghost use Rattle.exposure.specs.Request.{admittedOf};
 ghost use Rattle.plane.specs.Among.{placed, planOf};
 ghost use Rattle.counts_fit.specs.Fit.{lowOf, highOf, startOf, planeFor, naturalOf, onBoundOf, refusedOf, fitOf};
@@ -48,14 +50,21 @@ fn refusal(end: Ending, passes: u64) -> Fit
     }
 }
 
+// Shape and rate by their logarithms, among the four coordinates.
+fn by_logs(shape: f64, rate: f64) -> [f64; 4]
+    ensures { λ x. ⌜ x ≡ amongFourOf (logOf shape) (logOf rate) ⌝ }
+{
+    let x = elementary::log::log(shape);
+    let y = elementary::log::log(rate);
+    planar::among_four(x, y)
+}
+
 fn low(r: Request) -> [f64; 4]
     ensures { λ x. ⌜ x ≡ placed (lowOf r) ⌝ }
 {
     let shape = r.shape;
     let rate = r.rate;
-    let x = elementary::log::log(shape.low);
-    let y = elementary::log::log(rate.low);
-    planar::among_four(x, y)
+    by_logs(shape.low, rate.low)
 }
 
 fn high(r: Request) -> [f64; 4]
@@ -63,9 +72,7 @@ fn high(r: Request) -> [f64; 4]
 {
     let shape = r.shape;
     let rate = r.rate;
-    let x = elementary::log::log(shape.high);
-    let y = elementary::log::log(rate.high);
-    planar::among_four(x, y)
+    by_logs(shape.high, rate.high)
 }
 
 fn start(r: Request) -> [f64; 4]
@@ -73,9 +80,7 @@ fn start(r: Request) -> [f64; 4]
 {
     let shape = r.shape;
     let rate = r.rate;
-    let x = elementary::log::log(shape.start);
-    let y = elementary::log::log(rate.start);
-    planar::among_four(x, y)
+    by_logs(shape.start, rate.start)
 }
 
 fn plan(r: Request) -> Plan

@@ -9,7 +9,7 @@ use lib.Ieee.{Float, binary64, le, ofBits}
 use lib.Ieee.Bits.{ofBits-fits}
 use Rattle.num.specs.F64.{zero·, half·, one·, _⊗_}
 use Rattle.num.specs.Helpers.{isFiniteOf}
-use Rattle.order.specs.Numbers.{zero-finite, between-finite}
+use Rattle.order.specs.Numbers.{zero-finite, one-finite, between-finite}
 use Rattle.order.specs.Order.{le-then-le, eq-le}
 use Rattle.order.specs.Products.{mul-number, mul-swap, mul-not-below, mul-left, mul-one}
 use Rattle.work.specs.Work.{Work}
@@ -25,10 +25,6 @@ shareOf (suc k) = shareOf k ⊗ half·
 record Share (a : Float) : Type 0 where
   low : le zero· a ≡ true
   high : le a one· ≡ true
-
-one-finite : isFiniteOf one· ≡ true
-unfolding isFiniteOf ofBits
-one-finite = refl
 
 half-finite : isFiniteOf half· ≡ true
 unfolding isFiniteOf ofBits

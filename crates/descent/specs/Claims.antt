@@ -11,7 +11,7 @@ use lib.Ieee.Bits.{ofBits-fits}
 use Rattle.num.specs.Both.{and-left, and-right, or-left, or-other}
 use Rattle.num.specs.F64.{_⊕_, _⊗_, zero·, half·, one·}
 use Rattle.num.specs.Helpers.{absOf, isFiniteOf}
-use Rattle.order.specs.Numbers.{finite-number, zero-finite, le-left, le-right}
+use Rattle.order.specs.Numbers.{finite-number, zero-finite, le-left, le-right, one-finite}
 use Rattle.order.specs.Order.{le-self, le-then-le, lt-le, not-le}
 use Rattle.order.specs.Sums.{add-not-below, sum-not-above, add-left-above, add-number-right}
 use Rattle.order.specs.Products.{mul-number-above, mul-number-right, mul-not-above, mul-not-below}
@@ -108,10 +108,6 @@ unit-finite = refl
 one-above : le zero· one· ≡ true
 unfolding le ofBits
 one-above = refl
-
-one-finite : isFiniteOf one· ≡ true
-unfolding isFiniteOf ofBits
-one-finite = refl
 
 -- A step that is taken by its decrease does not raise the likelihood. Where there is such a bound it is no NaN, so neither is the slope.
 pub decrease-not-above : (nll slope next : Float) → T (fits binary64 nll) → le zero· slope ≡ false → le next (boundOf nll slope) ≡ true → le next nll ≡ true

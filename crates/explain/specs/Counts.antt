@@ -9,23 +9,14 @@ use Rattle.num.specs.F64.{bitsOf}
 use Rattle.work.specs.declared.Ending.{Ending}
 use Rattle.work.specs.Ended.{numberOf, reasonOf}
 use Rattle.descent.specs.declared.Trial.{Trial}
-use Rattle.descent.specs.declared.Trial.the-variants.{NotDownhill, NotMoved, TooLittle, ByDecrease, ByRounding, CutOff}
 use Rattle.why.specs.declared.Why.{Why}
 use Rattle.why.specs.declared.Why.the-variants.{Made, Refused, Unmade}
-use Rattle.why.specs.Why.{testNumber}
+use Rattle.why.specs.Why.{kindOf, testNumber}
 use Rattle.fit.specs.declared.report.Seen.{Seen}
 use Rattle.store.specs.Stored.{stored}
 use Rattle.buffers.specs.Buffers.{fitRoomOf, putFitOf}
 use Rattle.store.specs.Given.{Given, given}
 use Rattle.explain.specs.Lines.{numberIn}
-
-abbrev pub kindOf : Trial → ℕ
-kindOf (NotDownhill slope) = 1
-kindOf NotMoved = 2
-kindOf (TooLittle missed) = 3
-kindOf (ByDecrease slope) = 4
-kindOf (ByRounding allowance) = 5
-kindOf CutOff = 6
 
 -- kind, the bits of the number that decided, and of a trial that was not made the refusal's number, count and reason
 abbrev pub madeCountsOf : Trial → List ℕ

@@ -10,7 +10,7 @@ ghost use Prim.Native.Nat.{_≤_};
 ghost use lib.ListN.{length};
 ghost use Rattle.render.specs.Written.{written};
 ghost use Rattle.explain.specs.Lines.{line, numberIn, madeText, refusedText, trialText, testText, stoppedText, endingText};
-ghost use Rattle.explain.specs.Counts.{kindOf, madeCountsOf, refusedCountsOf, trialCountsOf, whyCountsOf, whyRoomOf, got, putWhyOf};
+ghost use Rattle.explain.specs.Counts.{madeCountsOf, refusedCountsOf, trialCountsOf, whyCountsOf, whyRoomOf, got, putWhyOf};
 
 // The number that decided a trial; 0 where none did.
 fn number(t: Trial) -> f64
@@ -96,24 +96,11 @@ pub fn ending(s: Stop, used: u64, out: &mut [u8]) -> usize
     test(t, out)
 }
 
-fn kind(t: Trial) -> u64
-    ensures { λ r. ⌜ r ≡ kindOf t ⌝ }
-{
-    match t {
-        Trial::NotDownhill(_) => 1,
-        Trial::NotMoved => 2,
-        Trial::TooLittle(_) => 3,
-        Trial::ByDecrease(_) => 4,
-        Trial::ByRounding(_) => 5,
-        Trial::CutOff => 6,
-    }
-}
-
 fn made_counts(t: Trial) -> [u64; 5]
     ensures { λ r. ⌜ r ≡ madeCountsOf t ⌝ }
 {
     let bits = print::bits(number(t));
-    [kind(t), bits, 0, 0, 0]
+    [why::kind(t), bits, 0, 0, 0]
 }
 
 fn refused_counts(e: Ending, used: u64) -> [u64; 5]

@@ -1,11 +1,12 @@
 -- Rows of counts, each with its exposure: two lent lists of one length. What a request has to satisfy of them.
 use mathlib.Core.Bool.{Bool, _&&_}
 use mathlib.Core.List.{List}
-use Prim.Native.Nat.{ℕ, zero, suc, _+_}
+use Prim.Native.Nat.{ℕ, _+_}
 use lib.Dec.{leb, eqb}
 use lib.ListN.{length, getD}
 use lib.Ieee.{Float, nan, lt}
 use Rattle.num.specs.Every.{everyFrom}
+use Rattle.num.specs.Sum.{sumFrom}
 use Rattle.num.specs.F64.{zero·}
 use Rattle.num.specs.Helpers.{isFiniteOf}
 
@@ -20,9 +21,8 @@ unfoldable pub isPositiveOf : Float → Bool
 isPositiveOf x = isFiniteOf x && lt zero· x
 
 -- of n rows from the i-th on
-unfoldable pub eventsFrom : List ℕ → ℕ → ℕ → ℕ
-eventsFrom cs zero i = 0
-eventsFrom cs (suc n) i = countAt cs i + eventsFrom cs n (i + 1)
+abbrev pub eventsFrom : List ℕ → ℕ → ℕ → ℕ
+eventsFrom cs n i = sumFrom _+_ 0 (countAt cs) n i
 
 unfoldable pub eventsOf : List ℕ → ℕ
 eventsOf cs = eventsFrom cs (length cs) 0

@@ -9,7 +9,7 @@ use borrow.Author.Tests.{lt-ltb, le-ltb, lt-leb, le-leb, not-true, not-false}
 use lib.Dec.{eqb}
 use lib.ListN.{length, getD}
 use lib.Ieee.{Float, nan}
-use Rattle.num.specs.F64.{_⊕_, _⊖_, _⊗_, _⊘_}
+use Rattle.num.specs.F64.{_⊖_, _⊘_}
 use Rattle.num.specs.Choose.{then, else, by-not-true}
 use Rattle.store.specs.Stored.{stored}
 use Rattle.num.specs.Left.{left-one, left-none}
@@ -19,7 +19,7 @@ use Rattle.intervals.specs.declared.answer.Intervals.{Intervals}
 use Rattle.finite.specs.Finite.{allFiniteOf}
 use Rattle.intervals.specs.Shape.{shapedOf, markedOf}
 use Rattle.intervals.specs.Passed.{few, same-length, few-errors, by-rows}
-use Rattle.intervals.specs.Factor.{at, asymmetricOf, low, productsFrom, productsOf, faultOf, heldOf, keptOf, diagonalOf, entryOf, rowFrom, lineOf, factorFrom, factoredOf}
+use Rattle.intervals.specs.Factor.{at, asymmetricOf, low, productsOf, faultOf, heldOf, keptOf, diagonalOf, entryOf, heldFrom, factoredOf}
 use Rattle.intervals.specs.Interval.{askedOf}
 use Rattle.intervals.specs.Intervals.{answeredOf, refusalOf, placedOf, collectedFrom, collectedOf, intervalsOf, Filled, filled, intervalsPut, intervalsFilled}
 
@@ -29,15 +29,6 @@ within n i j a b = omega (arith, mul-le-mul {n₁ = n} {m₁ = suc i} {n₂ = n}
 
 pub sixty-four : (n : ℕ) → n ≤ 8 → n * n ≤ 64
 sixty-four n h = mul-le-mul h h
-
-module _ (lower : List Float) (i j k : ℕ) (sum whole : Float) (e : productsFrom lower i j (j - k) k sum ≡ whole) where
-  pub products-turn : k < j → productsFrom lower i j (j - (k + 1)) (k + 1) (sum ⊕ low lower i k ⊗ low lower j k) ≡ whole
-  unfolding productsFrom
-  products-turn h = rw (left-one j k h) at e
-
-  pub products-done : j ≤ k → sum ≡ whole
-  unfolding productsFrom
-  products-done h = rw (left-none j k h) at e
 
 -- what an entry comes to: a and b are the two cells, s the products
 module _ (covariance : List Float) (n i j : ℕ) (lower : List Float) (r : Factor) (a b : Float) (t : Bool) (x : a ≡ at covariance n i j) (y : b ≡ at covariance n j i) (u : t ≡ asymmetricOf a b) where
@@ -53,31 +44,18 @@ module _ (covariance : List Float) (n i j : ℕ) (lower : List Float) (r : Facto
   unfolding entryOf
   entry-below s f p q o = rw (← x, ← y, ← u, f, q, ← p) o
 
-module _ (covariance : List Float) (n i m j : ℕ) (lower : List Float) (whole : Factor) (e : rowFrom covariance n i (m - j) j lower ≡ whole) where
-  pub row-stops : (f : Factor) → j < m → f ≡ entryOf covariance n i j lower → f .holds ≡ false → f ≡ whole
-  unfolding rowFrom
-  row-stops f h u s = else (f .holds) (rowFrom covariance n i (m - (j + 1)) (j + 1) (f .lower)) f f s refl ∙ (rw (left-one m j h, ← u) at e)
+module _ (step : ℕ → List Float → Factor) (m j : ℕ) (lower : List Float) (whole : Factor) (e : heldFrom step (m - j) j lower ≡ whole) where
+  pub held-stops : (f : Factor) → j < m → f ≡ step j lower → f .holds ≡ false → f ≡ whole
+  unfolding heldFrom
+  held-stops f h u s = else (f .holds) (heldFrom step (m - (j + 1)) (j + 1) (f .lower)) f f s refl ∙ (rw (left-one m j h, ← u) at e)
 
-  pub row-turn : (f : Factor) → j < m → f ≡ entryOf covariance n i j lower → f .holds ≡ true → rowFrom covariance n i (m - (j + 1)) (j + 1) (f .lower) ≡ whole
-  unfolding rowFrom
-  row-turn f h u s = rw (left-one m j h, ← u, s) at e
+  pub held-turns : (f : Factor) → j < m → f ≡ step j lower → f .holds ≡ true → heldFrom step (m - (j + 1)) (j + 1) (f .lower) ≡ whole
+  unfolding heldFrom
+  held-turns f h u s = rw (left-one m j h, ← u, s) at e
 
-  pub row-done : m ≤ j → heldOf lower ≡ whole
-  unfolding rowFrom
-  row-done h = rw (left-none m j h) at e
-
-module _ (covariance errors : List Float) (m i : ℕ) (lower : List Float) (whole : Factor) (e : factorFrom covariance errors (m - i) i lower ≡ whole) where
-  pub factor-stops : (f : Factor) → i < m → f ≡ lineOf covariance (length errors) i (getD errors i nan) lower → f .holds ≡ false → f ≡ whole
-  unfolding factorFrom
-  factor-stops f h u s = else (f .holds) (factorFrom covariance errors (m - (i + 1)) (i + 1) (f .lower)) f f s refl ∙ (rw (left-one m i h, ← u) at e)
-
-  pub factor-turn : (f : Factor) → i < m → f ≡ lineOf covariance (length errors) i (getD errors i nan) lower → f .holds ≡ true → factorFrom covariance errors (m - (i + 1)) (i + 1) (f .lower) ≡ whole
-  unfolding factorFrom
-  factor-turn f h u s = rw (left-one m i h, ← u, s) at e
-
-  pub factor-done : m ≤ i → heldOf lower ≡ whole
-  unfolding factorFrom
-  factor-done h = rw (left-none m i h) at e
+  pub held-ends : m ≤ j → heldOf lower ≡ whole
+  unfolding heldFrom
+  held-ends h = rw (left-none m j h) at e
 
 module _ (estimates errors : List Float) (marks m i : ℕ) (numbers : List Float) (whole : Intervals) (e : collectedFrom estimates errors marks (m - i) i numbers ≡ whole) where
   pub collected-stops : (b : Bool) (v : Interval) (r : Intervals) → i < m → b ≡ markedOf marks i → v ≡ askedOf b (getD estimates i nan) (getD errors i nan) → 0 < v .end → r ≡ refusalOf (v .end) → r ≡ whole

@@ -5,6 +5,7 @@ use Prim.Native.Nat.{ℕ, zero, suc, _+_, _*_}
 use lib.Dec.{eqb}
 use lib.ListN.{length, getD, set, replicate}
 use lib.Ieee.{Float, nan, lt, le}
+use Rattle.num.specs.Fold.{foldFrom}
 use Rattle.num.specs.F64.{bits, zero·, _⊕_, _⊖_, _⊗_, _⊘_}
 use Rattle.num.specs.Helpers.{absOf, isFiniteOf, maxOf}
 use Rattle.root.specs.Steps.{sqrtOf}
@@ -38,13 +39,13 @@ asymmetricOf a b = lt (maxOf least· (relative· ⊗ maxOf (absOf a) (absOf b)))
 abbrev pub low : List Float → ℕ → ℕ → Float
 low lower i j = getD lower (8 * i + j) nan
 
--- the products of rows i and j from column k on, m of them; the sum starts at plus zero
-unfoldable pub productsFrom : List Float → ℕ → ℕ → ℕ → ℕ → Float → Float
-productsFrom lower i j zero k sum = sum
-productsFrom lower i j (suc m) k sum = productsFrom lower i j m (k + 1) (sum ⊕ low lower i k ⊗ low lower j k)
+-- column k of rows i and j
+abbrev pub withProductOf : List Float → ℕ → ℕ → ℕ → Float → Float
+withProductOf lower i j k sum = sum ⊕ low lower i k ⊗ low lower j k
 
+-- of the first j columns; the sum starts at plus zero
 unfoldable pub productsOf : List Float → ℕ → ℕ → Float
-productsOf lower i j = productsFrom lower i j j 0 zero·
+productsOf lower i j = foldFrom (withProductOf lower i j) j 0 zero·
 
 abbrev pub faultOf : List Float → Factor
 faultOf lower = record { holds = false; lower = lower }
@@ -67,23 +68,21 @@ entryOf covariance n i j lower =
     cond (asymmetricOf (at covariance n i j) (at covariance n j i)) (faultOf lower)
     (cond (eqb i j) (diagonalOf lower i (valueOf covariance n i j lower)) (keptOf lower i j (valueOf covariance n i j lower ⊘ low lower j j)))
 
--- m entries of row i from column j on
-unfoldable pub rowFrom : List Float → ℕ → ℕ → ℕ → ℕ → List Float → Factor
-rowFrom covariance n i zero j lower = heldOf lower
-rowFrom covariance n i (suc m) j lower =
-    let e = entryOf covariance n i j lower in cond (e .holds) (rowFrom covariance n i m (j + 1) (e .lower)) e
+-- m steps from the j-th on, as far as each holds
+unfoldable pub heldFrom : (ℕ → List Float → Factor) → ℕ → ℕ → List Float → Factor
+heldFrom step zero j lower = heldOf lower
+heldFrom step (suc m) j lower = let e = step j lower in cond (e .holds) (heldFrom step m (j + 1) (e .lower)) e
 
+-- the entries of row i
 unfoldable pub rowOf : List Float → ℕ → ℕ → List Float → Factor
-rowOf covariance n i lower = rowFrom covariance n i (i + 1) 0 lower
+rowOf covariance n i lower = heldFrom (entryOf covariance n i) (i + 1) 0 lower
 
 unfoldable pub lineOf : List Float → ℕ → ℕ → Float → List Float → Factor
 lineOf covariance n i error lower = cond (disagreesOf (at covariance n i i) error) (faultOf lower) (rowOf covariance n i lower)
 
--- m rows from the i-th on
-unfoldable pub factorFrom : List Float → List Float → ℕ → ℕ → List Float → Factor
-factorFrom covariance errors zero i lower = heldOf lower
-factorFrom covariance errors (suc m) i lower =
-    let e = lineOf covariance (length errors) i (getD errors i nan) lower in cond (e .holds) (factorFrom covariance errors m (i + 1) (e .lower)) e
+-- row i, its standard error before it
+abbrev pub lineAt : List Float → List Float → ℕ → List Float → Factor
+lineAt covariance errors i lower = lineOf covariance (length errors) i (getD errors i nan) lower
 
 unfoldable pub factoredOf : List Float → List Float → Factor
-factoredOf covariance errors = factorFrom covariance errors (length errors) 0 (replicate 64 zero·)
+factoredOf covariance errors = heldFrom (lineAt covariance errors) (length errors) 0 (replicate 64 zero·)

@@ -6,10 +6,10 @@ use Prim.Native.Nat.{ℕ, _<_}
 use borrow.Table.Steps.{cases}
 use lib.ListN.{getD}
 use lib.Ieee.{Float, nan}
+use Rattle.num.specs.Filled.{at-place, same-values}
 use Rattle.elementary.specs.Erfc.{erfcPosOf, erfcHasRow, erfcPlace}
 use Rattle.lanes.specs.Lanes.{nth, erfcsOf}
 use Rattle.lanes.specs.ErfcParts.{erfcPlaces, erfcByRow, erfcsByRow, erfcChosen, erfcsChosen}
-use Rattle.lanes.specs.Filled.{at-place, same-values}
 
 module _ (x : Float) where
   by-row-is : erfcHasRow x ≡ true → erfcByRow x (erfcPlace x) ≡ erfcPosOf x

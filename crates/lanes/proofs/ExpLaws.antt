@@ -10,12 +10,12 @@ use lib.Dec.{ltb}
 use lib.ListN.{getD}
 use lib.Ieee.{Float, nan, neg, lt}
 use Rattle.num.specs.F64.{zero·, infinity·}
+use Rattle.num.specs.Filled.{at-place, same-values}
 use Rattle.tables.specs.declared.exp.ExpRow.{ExpRow}
 use Rattle.tables.specs.Exp.{expRowOf}
 use Rattle.elementary.specs.Exp.{expOf, expBelow, expAbove, expFinish, expReduced, expSum, expWhole, expPlace, expByRow, exp-low, exp-high, three-eighths}
 use Rattle.lanes.specs.Lanes.{nth, expsOf}
 use Rattle.lanes.specs.ExpParts.{noExpRow, expPlaces, expRowsFor, expsByRow, first-e, last-e, expOutside, expChosen, expsChosen}
-use Rattle.lanes.specs.Filled.{at-place, same-values}
 
 -- ---- a place that counts: both cuts were passed
 abbrev cut : Bool → Bool → ℕ → ℕ

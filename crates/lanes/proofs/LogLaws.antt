@@ -7,12 +7,13 @@ use borrow.Table.Steps.{cases}
 use lib.ListN.{getD}
 use lib.Ieee.{Float, nan, lt}
 use Rattle.num.specs.F64.{infinity·, bitsOf}
+use Rattle.num.specs.Values.{values}
+use Rattle.num.specs.Filled.{at-place, same-values}
 use Rattle.tables.specs.declared.log.LogRow.{LogRow}
 use Rattle.lanes.specs.declared.log.LogRows.{LogRows}
 use Rattle.elementary.specs.Log.{logOf, logParts, logSum, logRowAt, logPlace, logByRow, log-d, log-bias, least-normal}
-use Rattle.lanes.specs.Lanes.{values, nth, logsOf}
+use Rattle.lanes.specs.Lanes.{nth, logsOf}
 use Rattle.lanes.specs.LogParts.{rowIn, logPlaces, logRowsFor, logsByRow, logChosen, logsChosen}
-use Rattle.lanes.specs.Filled.{at-place, same-values}
 
 -- ---- the value by row
 by-parts : (b : ℕ) → logByRow (b + log-d) (logRowAt (b + log-d)) ≡ logSum (logParts b log-bias)

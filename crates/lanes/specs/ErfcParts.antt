@@ -4,9 +4,9 @@ use mathlib.Core.List.{List}
 use Prim.Native.Nat.{ℕ}
 use lib.ListN.{getD}
 use lib.Ieee.{Float, nan}
+use Rattle.num.specs.Values.{values}
 use Rattle.tables.specs.Erfc.{erfcRowOf}
 use Rattle.elementary.specs.Erfc.{erfcAtRow, erfcPosOf, erfcHasRow, erfcPlace}
-use Rattle.lanes.specs.Lanes.{values}
 
 unfoldable pub erfcPlaces : List Float → List ℕ
 erfcPlaces x = values (λ i. erfcPlace (getD x i nan)) 16 0

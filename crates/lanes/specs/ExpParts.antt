@@ -5,10 +5,10 @@ use Prim.Native.Nat.{ℕ, _/_, _%_}
 use lib.Dec.{ltb}
 use lib.ListN.{getD}
 use lib.Ieee.{Float, nan, neg, lt}
+use Rattle.num.specs.Values.{values}
 use Rattle.tables.specs.declared.exp.ExpRow.{ExpRow}
 use Rattle.tables.specs.Exp.{expRowOf}
 use Rattle.elementary.specs.Exp.{expOf, expSmall, expPlace, expByRow, three-eighths}
-use Rattle.lanes.specs.Lanes.{values}
 
 abbrev pub noExpRow : ExpRow
 noExpRow = record { value = nan; rest = nan }

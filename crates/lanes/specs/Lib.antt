@@ -2,4 +2,3 @@ pub mod Lanes
 pub mod ExpParts
 pub mod LogParts
 pub mod ErfcParts
-pub mod Filled

@@ -5,10 +5,10 @@ use Prim.Native.Nat.{ℕ}
 use lib.ListN.{getD}
 use lib.Ieee.{Float, nan, lt}
 use Rattle.num.specs.F64.{infinity·}
+use Rattle.num.specs.Values.{values}
 use Rattle.tables.specs.declared.log.LogRow.{LogRow}
 use Rattle.lanes.specs.declared.log.LogRows.{LogRows}
 use Rattle.elementary.specs.Log.{logOf, logRowAt, logPlace, logByRow, least-normal}
-use Rattle.lanes.specs.Lanes.{values}
 
 unfoldable pub logPlaces : List Float → List ℕ
 logPlaces x = values (λ i. logPlace (getD x i nan)) 16 0

@@ -1,8 +1,10 @@
 -- `legendre` of the source: sixteen nodes and weights, from the polynomial's recurrence and Newton's steps.
 use mathlib.Core.Bool.{cond}
-use mathlib.Core.List.{List, [], _∷_}
+use mathlib.Core.List.{List}
 use Prim.Native.Nat.{ℕ, zero, suc, _+_, _-_, _*_}
 use lib.Ieee.{Float, lt}
+use Rattle.num.specs.Fold.{foldFrom}
+use Rattle.num.specs.Values.{values}
 use Rattle.num.specs.F64.{_⊕_, _⊖_, _⊗_, _⊘_, whole, bits, zero·, quarter·, half·, one·, two·}
 use Rattle.num.specs.Helpers.{absOf}
 use Rattle.elementary.specs.Cos.{cosOf}
@@ -16,13 +18,12 @@ pi = bits 0x4009_21fb_5444_2d18
 abbrev pub sixteen : Float
 sixteen = bits 0x4030_0000_0000_0000
 
--- the n degrees from j on: p1 is the polynomial of degree j - 1 at x, p0 the one before it
-unfoldable pub degrees : Float → ℕ → ℕ → Float → Float → Polynomial
-degrees x zero j p0 p1 = record { p0 = p0; p1 = p1 }
-degrees x (suc n) j p0 p1 = degrees x n (j + 1) p1 ((whole (2 * j - 1) ⊗ x ⊗ p1 ⊖ whole (j - 1) ⊗ p0) ⊘ whole j)
+-- the polynomial of degree j at x, p1 of degree j - 1 and p0 the one before it
+abbrev pub degreeOf : Float → ℕ → Polynomial → Polynomial
+degreeOf x j p = record { p0 = p .p1; p1 = (whole (2 * j - 1) ⊗ x ⊗ p .p1 ⊖ whole (j - 1) ⊗ p .p0) ⊘ whole j }
 
 unfoldable pub recurrenceOf : Float → Polynomial
-recurrenceOf x = degrees x 15 2 one· x
+recurrenceOf x = foldFrom (degreeOf x) 15 2 (record { p0 = one·; p1 = x })
 
 abbrev pub derivativeAt : Float → Polynomial → Float
 derivativeAt x p = sixteen ⊗ (x ⊗ p .p1 ⊖ p .p0) ⊘ (x ⊗ x ⊖ one·)
@@ -51,10 +52,5 @@ nodeAndWeightOf k =
     let n = newtonOf (cosOf (pi ⊗ (whole k ⊖ quarter·) ⊘ (sixteen ⊕ half·))) in
     record { x = n .x; w = two· ⊘ ((one· ⊖ n .x ⊗ n .x) ⊗ n .derivative ⊗ n .derivative) }
 
--- n pairs, from the k-th on
-unfoldable pub pairs : ℕ → ℕ → List Pair
-pairs zero k = []
-pairs (suc n) k = nodeAndWeightOf k ∷ pairs n (k + 1)
-
 unfoldable pub legendreOf : List Pair
-legendreOf = pairs 16 1
+legendreOf = values (λ i. nodeAndWeightOf (i + 1)) 16 0

@@ -3,11 +3,13 @@ use mathlib.Core.Path.{_≡_, refl}
 use mathlib.Core.List.{List, [], _∷_}
 use Prim.Native.Nat.{ℕ}
 use lib.Ieee.{add, sub, mul, div, neg, lt, le, ofBits, ofInt, toBits}
+use Rattle.num.specs.Fold.{foldFrom}
+use Rattle.num.specs.Values.{values}
 use Rattle.num.specs.F64.{bits}
 use Rattle.num.specs.Helpers.{absOf}
 use Rattle.elementary.specs.Cos.{cosOf}
 use Rattle.legendre.specs.declared.Pair.{Pair}
-use Rattle.legendre.specs.Legendre.{degrees, recurrenceOf, newtonFrom, newtonOf, nodeAndWeightOf, pairs, legendreOf}
+use Rattle.legendre.specs.Legendre.{recurrenceOf, newtonFrom, newtonOf, nodeAndWeightOf, legendreOf}
 
 -- a node and its weight
 abbrev pub pair : ℕ → ℕ → Pair
@@ -35,5 +37,5 @@ table =
 
 -- antt computes both sides
 pub pairs-are : legendreOf ≡ table
-unfolding table degrees recurrenceOf newtonFrom newtonOf nodeAndWeightOf pairs legendreOf cosOf absOf add sub mul div neg lt le ofBits ofInt toBits
+unfolding table foldFrom recurrenceOf newtonFrom newtonOf nodeAndWeightOf values legendreOf cosOf absOf add sub mul div neg lt le ofBits ofInt toBits
 pairs-are = refl

@@ -2,7 +2,6 @@
 ghost use mathlib.Core.Path.{_≡_};
 ghost use mathlib.Core.Bool.{cond};
 ghost use Prim.Native.Nat.{_≤_};
-ghost use Rattle.litters.specs.Litters.{countOf};
 ghost use Rattle.litters.specs.Groups.{ofGroupOf};
 
 fn one_if(t: bool) -> usize
@@ -12,7 +11,7 @@ fn one_if(t: bool) -> usize
 }
 
 pub fn of_group(litters: &[u32], g: u32) -> usize
-    ensures { λ r. ⌜ r ≡ ofGroupOf (now (litters .entry)) g (countOf (now (litters .entry))) 0 ⌝ }
+    ensures { λ r. ⌜ r ≡ ofGroupOf (now (litters .entry)) g ⌝ }
 {
     let n = litters.len() / 3;
     let mut c: usize = 0;

@@ -6,9 +6,10 @@ use native.Mathlib.Omega.{arith}
 use lib.ListN.{getD}
 use lib.Ieee.{Float, nan}
 use Rattle.num.specs.F64.{_⊕_, _⊗_, half·}
+use Rattle.num.specs.Fold.{foldFrom}
+use Rattle.num.specs.Filled.{at-place}
 use Rattle.elementary.specs.Exp.{expOf}
 use Rattle.lanes.specs.Lanes.{nth, expsOf}
-use Rattle.lanes.specs.Filled.{at-place}
 use Rattle.normal.specs.Conditional.{conditionalOf}
 use Rattle.conditionals.specs.declared.Moments.{Moments}
 use Rattle.conditionals.specs.Conditionals.{momentAt, conditionalsOf, six-are}
@@ -17,7 +18,7 @@ use Rattle.posterior.specs.declared.integrand.Posterior.{Posterior}
 use Rattle.posterior.specs.Integrand.{integrandOf}
 use Rattle.nodes.specs.Node.{addedOf, noPair, nodeOf, weightOf}
 use Rattle.nodes.specs.Nodes.{nodesFrom, sixteenOf}
-use Rattle.nodes.specs.Stages.{placesOf, etasOf, heightOf, heightsOf, momentsAt, summedFrom, summedOf}
+use Rattle.nodes.specs.Stages.{placesOf, etasOf, heightOf, heightsOf, momentsAt, withNodeOf, summedOf}
 
 -- ---- what each stage has at place j
 module _ (j : ℕ) (h : j < 16) where
@@ -77,12 +78,12 @@ module _ (y t : ℕ) (mean sd top center width : Float) (rule : List Pair) where
     unfolding integrandOf
     moments-at = rw (← eta-at) (moments-are j h (etasOf mean sd z) y t)
 
-  in-order : (n i : ℕ) (s : List Float) → i + n ≤ 16 → summedFrom width rule e m n i s ≡ nodesFrom (integrandOf y t mean sd) rule top center width n i s
-  unfolding summedFrom nodesFrom
+  in-order : (n i : ℕ) (s : List Float) → i + n ≤ 16 → foldFrom (withNodeOf width rule e m) n i s ≡ nodesFrom (integrandOf y t mean sd) rule top center width n i s
+  unfolding foldFrom nodesFrom
   in-order zero i s h = refl
   in-order (suc n) i s h =
       let l : i < 16 = omega arith in
-      ap (λ s. summedFrom width rule e m n (i + 1) s) (added-same s _ _ (momentsAt m i) _ (weight-at i l) (moments-at i l)) ∙ in-order n (i + 1) _ (omega arith)
+      ap (λ s. foldFrom (withNodeOf width rule e m) n (i + 1) s) (added-same s _ _ (momentsAt m i) _ (weight-at i l) (moments-at i l)) ∙ in-order n (i + 1) _ (omega arith)
 
 -- ---- at what the code calls, each by its equation
 pub batch : (p : Posterior) (rule : List Pair) (top center width : Float) (s z x h e r : List Float) (m : Moments) → z ≡ placesOf center width rule → x ≡ etasOf (p .mean) (p .sd) z → m ≡ conditionalsOf x (p .successes) (p .total) → h ≡ heightsOf (m .log) z top → e ≡ expsOf h → r ≡ summedOf width rule e m s → r ≡ sixteenOf p rule top center width s

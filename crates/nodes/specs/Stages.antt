@@ -1,10 +1,11 @@
 -- The stages at all sixteen nodes: where they lie, the place on the probit scale, the integrand's logarithm below the mode's; and their additions in order.
 use mathlib.Core.List.{List}
-use Prim.Native.Nat.{ℕ, zero, suc, _+_}
+use Prim.Native.Nat.{ℕ}
 use lib.ListN.{getD}
 use lib.Ieee.{Float, nan}
 use Rattle.num.specs.F64.{_⊕_, _⊖_, _⊗_, half·}
-use Rattle.lanes.specs.Lanes.{values}
+use Rattle.num.specs.Fold.{foldFrom}
+use Rattle.num.specs.Values.{values}
 use Rattle.normal.specs.Normal.{log-two-pi}
 use Rattle.conditionals.specs.declared.Moments.{Moments}
 use Rattle.conditionals.specs.Conditionals.{sixOf}
@@ -28,10 +29,9 @@ heightsOf log z top = values (λ i. heightOf (getD log i nan) (getD z i nan) top
 abbrev pub momentsAt : Moments → ℕ → List Float
 momentsAt m i = sixOf (getD (m .first) i nan) (getD (m .second) i nan) (getD (m .third) i nan) (getD (m .fourth) i nan)
 
--- n additions, from node i on
-unfoldable pub summedFrom : Float → List Pair → List Float → Moments → ℕ → ℕ → List Float → List Float
-summedFrom width rule e m zero i s = s
-summedFrom width rule e m (suc n) i s = summedFrom width rule e m n (i + 1) (addedOf s (half· ⊗ width ⊗ getD rule i noPair .w ⊗ getD e i nan) (momentsAt m i))
+-- node i added
+abbrev pub withNodeOf : Float → List Pair → List Float → Moments → ℕ → List Float → List Float
+withNodeOf width rule e m i s = addedOf s (half· ⊗ width ⊗ getD rule i noPair .w ⊗ getD e i nan) (momentsAt m i)
 
 unfoldable pub summedOf : Float → List Pair → List Float → Moments → List Float → List Float
-summedOf width rule e m s = summedFrom width rule e m 16 0 s
+summedOf width rule e m s = foldFrom (withNodeOf width rule e m) 16 0 s

@@ -13,6 +13,12 @@ and-right false b h = cc
 pub and-both : (a b : Bool) → a ≡ true → b ≡ true → (a && b) ≡ true
 and-both a b h k = rw (h, k)
 
+pub and-four : (a b c d : Bool) → ((a && b) && (c && d)) ≡ true → (a ≡ true) × (b ≡ true) × (c ≡ true) × (d ≡ true)
+and-four a b c d h =
+    let front = and-left (a && b) (c && d) h in
+    let back = and-right (a && b) (c && d) h in
+    (and-left a b front, and-right a b front, and-left c d back, and-right c d back)
+
 pub or-left : (a b : Bool) → (a || b) ≡ false → a ≡ false
 or-left true b h = h
 or-left false b h = refl

@@ -4,6 +4,10 @@ pub mod Choose
 pub mod Both
 pub mod Left
 pub mod Every
+pub mod Fold
+pub mod Sum
+pub mod Values
+pub mod Filled
 pub mod Numbers
 pub mod Leading
 pub mod Compare

@@ -1,7 +1,7 @@
 -- The two zeros beside other f64: what adding one, or taking the larger of one, leaves as it was. Equal here is the same datum, the sign of a zero included.
 use mathlib.Core.Path.{_≡_, refl, sym, ap, _∙_}
 use mathlib.Core.Bool.{Bool, true, false, false≢true}
-use Prim.Native.Nat.{ℕ, zero, suc, _+_, _*_, _/_, _^_, _<_}
+use Prim.Native.Nat.{ℕ, zero, suc, _*_, _/_, _^_, _<_}
 use native.Mathlib.Nat.{mul-right-comm, mul-pos, zero-lt-suc}
 use native.Mathlib.Omega.{arith}
 use borrow.Author.Tests.{eqb-true}
@@ -13,7 +13,7 @@ use lib.Ieee.Fits.{up-pos, down-pos, neg-fits, add-fits, mul-fits}
 use lib.Ieee.Nearest.{div-same}
 use lib.Ieee.Bits.{ofBits-toBits, ofBits-fits}
 use Rattle.num.specs.Both.{and-left, and-right}
-use Rattle.num.specs.F64.{_⊕_, _⊗_, zero·}
+use Rattle.num.specs.F64.{_⊕_, _⊖_, _⊗_, zero·}
 use Rattle.num.specs.Helpers.{absOf, maxOf, clampOf, isFiniteOf}
 use Rattle.order.specs.Numbers.{finite-number, zero-finite}
 use Rattle.order.specs.Order.{le-both, le-not-lt, not-lt}
@@ -163,7 +163,11 @@ pub abs-steady : (x : Float) → T (fits binary64 x) → absOf x ⊕ zero· ≡ 
 unfolding absOf sub
 abs-steady x f = cases (le x zero·) (λ t. rw t (steady (neg x) (neg-fits binary64 x f))) (λ t. rw t (steady-number x f t))
 
-zero-is : eq zero· zero· ≡ true
+pub zero-less-zero : zero· ⊖ zero· ≡ zero·
+unfolding sub add neg ofBits
+zero-less-zero = refl
+
+pub zero-is : eq zero· zero· ≡ true
 unfolding eq ofBits
 zero-is = refl
 

@@ -8,10 +8,10 @@ use lib.Ieee.Fits.{mul-fits, cond-fits}
 use lib.Ieee.Bits.{ofBits-fits}
 use Rattle.num.specs.F64.{_⊕_, _⊖_, _⊗_, _⊘_, zero·, one·}
 use Rattle.num.specs.Helpers.{absOf, maxOf, isFiniteOf}
-use Rattle.order.specs.Numbers.{finite-number, le-right}
+use Rattle.order.specs.Numbers.{finite-number, zero-finite, le-right}
 use Rattle.order.specs.Products.{mul-swap}
 use Rattle.order.specs.Choices.{abs-not-below}
-use Rattle.order.specs.Zeros.{steady, begun-at-zero, abs-steady, zero-max, max-zero, held-plus, held-minus}
+use Rattle.order.specs.Zeros.{zero-less-zero, zero-is, steady, begun-at-zero, abs-steady, zero-max, max-zero, held-plus, held-minus}
 use Rattle.planar.specs.declared.Planar.{Planar}
 use Rattle.planar.specs.Planar.{amongFourOf, widenedOf}
 use Rattle.step.specs.declared.Move.{Move}
@@ -33,10 +33,6 @@ pub record Good (v : Planar) : Type 0 where
   pub y-fits : T (fits binary64 (v .y))
 
 -- ---- zeros beside zeros
-zero-eq : eq zero· zero· ≡ true
-unfolding eq ofBits
-zero-eq = refl
-
 zero-lt : lt zero· zero· ≡ false
 unfolding lt ofBits
 zero-lt = refl
@@ -57,10 +53,6 @@ zero-sum-minus : zero· ⊕ neg zero· ≡ zero·
 unfolding add neg ofBits
 zero-sum-minus = refl
 
-zero-difference : zero· ⊖ zero· ≡ zero·
-unfolding sub add neg ofBits
-zero-difference = refl
-
 zero-square : zero· ⊗ zero· ≡ zero·
 unfolding mul ofBits
 zero-square = refl
@@ -68,10 +60,6 @@ zero-square = refl
 zero-minus-square : zero· ⊗ neg zero· ≡ neg zero·
 unfolding mul neg ofBits
 zero-minus-square = refl
-
-zero-finite : isFiniteOf zero· ≡ true
-unfolding isFiniteOf ofBits
-zero-finite = refl
 
 minus-finite : isFiniteOf (neg zero·) ≡ true
 unfolding isFiniteOf neg ofBits
@@ -85,7 +73,7 @@ held-step = refl
 -- ---- the projection and the norm
 project-among : (s : Spot) (v : Planar) (low high : Spot) → four.projectOf (placed s) (amongFourOf (v .x) (v .y)) (placed low) (placed high) ≡ placed (projectedOf s v low high)
 unfolding four.projectOf projectedOf
-project-among s v low high = rw (zero-eq, zero-lt)
+project-among s v low high = rw (zero-is, zero-lt)
 
 norm-among : (g : Spot) → isFiniteOf (g .x) ≡ true → isFiniteOf (g .y) ≡ true → T (fits binary64 (g .x)) → four.normOf (placed g) ≡ normOf g
 unfolding four.normOf normOf
@@ -136,7 +124,7 @@ safe-among g m = rw (poor-among g m) (safe-by (poor g m) g m)
 -- the pair that moves is the second group; the first is held by its bounds
 joined-among : (s g : Spot) (v : Planar) (low high : Spot) → four.joined (four.groupStepOf (placed s) (placed g) (widenedOf v .hessian) (placed low) (placed high) 0) (four.groupStepOf (placed s) (placed g) (widenedOf v .hessian) (placed low) (placed high) 1) ≡ way false (stepOf s g v low high)
 unfolding four.aloneOf
-joined-among s g v low high = rw (zero-eq, held-step)
+joined-among s g v low high = rw (zero-is, held-step)
 
 directed : (s g : Spot) (v : Planar) (low high : Spot) → four.safeOf (placed g) (four.joined (four.groupStepOf (placed s) (placed g) (widenedOf v .hessian) (placed low) (placed high) 0) (four.groupStepOf (placed s) (placed g) (widenedOf v .hessian) (placed low) (placed high) 1)) ≡ way (poor g (stepOf s g v low high)) (safeOf g (stepOf s g v low high))
 directed s g v low high = ap (four.safeOf (placed g)) (joined-among s g v low high) ∙ safe-among g (stepOf s g v low high)
@@ -160,11 +148,11 @@ candidate-among s v alpha low high i =
 slope-among : (v : Planar) (next s : Spot) → four.slopeOf (amongFourOf (v .x) (v .y)) (placed next) (placed s) ≡ slopeOf v next s
 unfolding four.slopeOf slopeOf
 slope-among v next s =
-    rw (zero-difference, zero-square, zero-sum, steady (v .x ⊗ (next .x ⊖ s .x)) (mul-fits binary64 (v .x) (next .x ⊖ s .x)))
+    rw (zero-less-zero, zero-square, zero-sum, steady (v .x ⊗ (next .x ⊖ s .x)) (mul-fits binary64 (v .x) (next .x ⊖ s .x)))
 
 still-among : (next s : Spot) → four.stillOf (placed next) (placed s) ≡ stillOf next s
 unfolding four.stillOf stillOf
-still-among next s = rw zero-eq
+still-among next s = rw zero-is
 
 -- ---- so each shows the other
 abbrev pub planOf : Course → Plan

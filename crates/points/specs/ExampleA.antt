@@ -7,6 +7,7 @@ use lib.Count.{leadingZeros}
 use lib.ListN.{replicate}
 use lib.Ieee.{Float, add, sub, mul, div, neg, lt, le, eq, ne, ofBits, ofInt, toBits}
 use Rattle.num.specs.Every.{everyFrom}
+use Rattle.num.specs.Sum.{sumFrom}
 use Rattle.num.specs.F64.{bits}
 use Rattle.num.specs.Helpers.{absOf, isFiniteOf, maxOf, minOf, clampOf, powiFrom, powiOf}
 use Rattle.finite.specs.Finite.{allFiniteOf}
@@ -85,5 +86,5 @@ answer-a =
 -- four evaluations are enough; three give WorkBudget with count 3; no iterations are InvalidInput
 pub example-a-is :
     (fitOf (example-a 10 4) four-litters ≡ answer-a) × (fitOf (example-a 10 3) four-litters ≡ refusedOf WorkBudget 3) × (fitOf (example-a 0 4) four-litters ≡ refusedOf InvalidInput 0)
-unfolding fitOf limitedFit fit sdsOf activeOf projectOf normOf admittedOf twoEachOf ofGroupOf validControlsOf validSdsOf validMeansOf validSdOf validMeanOf through descend objective rows finiteTotals allFiniteOf everyFrom point.validPointOf point.validVarianceOf point.validMeanOf validLittersOf eachValidOf validLitterOf share coefficientOf logFactorialOf integrand.aloneOf integrand.atOf integrand.integrandOf conditionalOf combinedOf normalOf normalCentre _>>=_ metered lgammaOf lgammaByProduct lgammaBelowOne productOf productFrom erfcOf erfcPosOf erfcTail erfcRowOf erfcRows logOf logParts logSmall logRowOf logRows expOf expLow expBelow expAbove expFinish expFar expRowOf expRows sqrtOf absOf isFiniteOf maxOf minOf clampOf powiOf powiFrom leadingZeros toBits add sub mul div neg lt le eq ne ofBits ofInt
+unfolding fitOf limitedFit fit sdsOf activeOf projectOf normOf admittedOf twoEachOf ofGroupOf sumFrom validControlsOf validSdsOf validMeansOf validSdOf validMeanOf through descend objective rows finiteTotals allFiniteOf everyFrom point.validPointOf point.validVarianceOf point.validMeanOf validLittersOf eachValidOf validLitterOf share coefficientOf logFactorialOf integrand.aloneOf integrand.atOf integrand.integrandOf conditionalOf combinedOf normalOf normalCentre _>>=_ metered lgammaOf lgammaByProduct lgammaBelowOne productOf productFrom erfcOf erfcPosOf erfcTail erfcRowOf erfcRows logOf logParts logSmall logRowOf logRows expOf expLow expBelow expAbove expFinish expFar expRowOf expRows sqrtOf absOf isFiniteOf maxOf minOf clampOf powiOf powiFrom leadingZeros toBits add sub mul div neg lt le eq ne ofBits ofInt
 example-a-is = (refl, refl, refl)

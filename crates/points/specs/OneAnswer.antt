@@ -68,7 +68,7 @@ use Rattle.claim.specs.Claim.{numberOf as Claim·numberOf, reasonOf as Claim·r
 use Rattle.claim.specs.Give.{vetRoomOf}
 use Rattle.vet.specs.Vet.{vetOf}
 use Rattle.litters.specs.declared.Litter.{Litter}
-use Rattle.litters.specs.Litters.{countOf, numbersOf}
+use Rattle.litters.specs.Litters.{numbersOf}
 use Rattle.litters.specs.Valid.{validLitterOf, eachValidOf, validLittersOf}
 use Rattle.litters.specs.Groups.{ofGroupOf}
 use Rattle.litters.specs.Table.{noRows, withRows, numbersForOf, handedOnOf}
@@ -168,7 +168,7 @@ of-stepper = (one4 _, one2 _, one3 _)
 pub of-fit : One4 refusalOf × One2 stoppedOf × One6 drivenOf × One2 fitOf
 of-fit = (one4 _, one2 _, one6 _, one2 _)
 
-pub of-litters : One3 validLitterOf × One1 eachValidOf × One1 validLittersOf × One2 (λ (ls : List ℕ) (g : ℕ). ofGroupOf ls g (countOf ls) 0) × One1 (λ (ls : List Litter). withRows ls 0 noRows) × One1 numbersForOf × One1 handedOnOf
+pub of-litters : One3 validLitterOf × One1 eachValidOf × One1 validLittersOf × One2 ofGroupOf × One1 (λ (ls : List Litter). withRows ls 0 noRows) × One1 numbersForOf × One1 handedOnOf
 of-litters = (one3 _, one1 _, one1 _, one2 _, one1 _, one1 _, one1 _)
 
 pub of-archive : One1 Archive·numberOf × One1 sizeOf × One1 shapedOf × One2 runningOf × One2 differenceOf × One3 Archive·betweenOf × One1 checkOf × One2 writeOf

@@ -2,7 +2,7 @@
 use mathlib.Core.Path.{_≡_, refl}
 use mathlib.Core.Bool.{Bool, true, false, cond}
 use mathlib.Core.List.{List, [], _∷_}
-use Prim.Native.Nat.{ℕ, _≤_}
+use Prim.Native.Nat.{ℕ, _≤_, _<_}
 use native.Mathlib.Omega.{arith}
 use lib.Dec.{lit≤}
 use lib.ListN.{length, length-append, getD}
@@ -11,6 +11,7 @@ use Rattle.descent.specs.declared.Status.{Status}
 use Rattle.descent.specs.declared.Status.the-variants.{NoStatus, Converged, EvaluationLimit, IterationLimit, LineSearchFailed}
 use Rattle.fit.specs.declared.report.Fit.{Fit}
 use Rattle.template.specs.Template.{ascii}
+use Rattle.render.specs.Written.{written}
 use Rattle.render.specs.Width.{width, length-render}
 use Rattle.print.specs.Answer.{refusalText, statusText, report, reportValues, activeText, reportText, fitText}
 
@@ -21,6 +22,11 @@ longest = 343
 -- what is asked of a buffer: the rest is for lines to come, so that hosts keep theirs
 abbrev pub room : ℕ
 room = 512
+
+-- what a text's answer is by its contract, where there is room: t of n bytes, put from the start
+module _ (out after u t : List ℕ) (n : ℕ) where
+  pub whole-answer : room ≤ length out → u ≡ t → (n ≡ length u) × (after ≡ written out 0 u) → length u ≤ room → (length out < room → (n ≡ 0) × (after ≡ out)) × ((room ≤ length out → (n ≡ length t) × (after ≡ written out 0 t)) × (n ≤ room))
+  whole-answer h e p l = ((λ k. absurd (omega arith)), ((λ k. rw (← e) p), rw (p .0) l))
 
 pub refusal-fits : (number count reason : ℕ) → length (refusalText number count reason) ≤ 71
 unfolding refusalText width

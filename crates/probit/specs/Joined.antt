@@ -1,5 +1,5 @@
 -- Parts, then the answer's bytes: what an answering call makes of a lent state, and that every cut of a text gets the answer to the whole.
-use mathlib.Core.Path.{_≡_, sym, ap, _∙_}
+use mathlib.Core.Path.{_≡_, ap}
 use mathlib.Core.Bool.{Bool, cond, _&&_}
 use mathlib.Core.List.{List}
 use Prim.Native.Nat.{ℕ}
@@ -8,6 +8,7 @@ use lib.ListN.{length, take, getD, set}
 use Rattle.render.specs.Written.{written}
 use Rattle.print.specs.Room.{room}
 use Rattle.text.specs.Answer.{answerTo, answerText}
+use Rattle.store.specs.Given.{agree}
 use Rattle.parts.specs.Lent.{isSizedOf}
 use Rattle.parts.specs.Joined.{joined, readerAfter}
 use Rattle.parts.specs.Joined.{in-parts as reads}
@@ -47,6 +48,4 @@ lent-answer-in-parts ps = ap answerTo (reads-lent ps)
 -- ---- no second answer meets the contract
 
 pub one-answered : (s : Answered) (r t : ℕ) (c d o p : List ℕ) → answered r c o ≡ s → answered t d p ≡ s → (r ≡ t) × (c ≡ d) × (o ≡ p)
-one-answered s r t c d o p h g =
-    let e : answered r c o ≡ answered t d p = h ∙ sym g in
-    (ap (λ (x : Answered). x .value) e, ap (λ (x : Answered). x .counts) e, ap (λ (x : Answered). x .out) e)
+one-answered s r t c d o p h g = (agree (λ (x : Answered). x .value) s _ _ h g, agree (λ (x : Answered). x .counts) s _ _ h g, agree (λ (x : Answered). x .out) s _ _ h g)

@@ -8,7 +8,6 @@ use lib.ListN.{getD}
 use lib.Ieee.{Float, nan, neg, lt, le}
 use Rattle.num.specs.F64.{_⊗_, zero·, three·, eight·}
 use Rattle.num.specs.Helpers.{isFiniteOf}
-use Rattle.litters.specs.Litters.{countOf}
 use Rattle.litters.specs.Valid.{validLittersOf}
 use Rattle.litters.specs.Groups.{ofGroupOf}
 use Rattle.litters.specs.All.{all, and-assoc, and-true, and-false, both-all, one-fails}
@@ -35,7 +34,7 @@ controlChecks r = leb 1 (r .evaluations .0) ∷ leb (r .evaluations .0) 1000 ∷
 
 -- at least two litters of each group
 abbrev groupChecks : List ℕ → List Bool
-groupChecks ls = leb 2 (ofGroupOf ls 0 (countOf ls) 0) ∷ leb 2 (ofGroupOf ls 1 (countOf ls) 0) ∷ []
+groupChecks ls = leb 2 (ofGroupOf ls 0) ∷ leb 2 (ofGroupOf ls 1) ∷ []
 
 abbrev limitChecks : Request → List Bool
 limitChecks r = leb 1 (r .quadrature .0) ∷ leb (r .quadrature .0) 20000000 ∷ []

@@ -7,7 +7,6 @@ use lib.ListN.{getD}
 use lib.Ieee.{Float, nan, neg, lt, le}
 use Rattle.num.specs.F64.{_⊗_, zero·, three·, eight·}
 use Rattle.num.specs.Helpers.{isFiniteOf, powiOf}
-use Rattle.litters.specs.Litters.{countOf}
 use Rattle.litters.specs.Valid.{validLittersOf}
 use Rattle.litters.specs.Groups.{ofGroupOf}
 use Rattle.request.specs.declared.Bounds.{Bounds}
@@ -61,7 +60,7 @@ validLimit l = upToOf 20000000 l
 
 -- at least two litters of each group
 unfoldable pub twoEachOf : List ℕ → Bool
-twoEachOf ls = leb 2 (ofGroupOf ls 0 (countOf ls) 0) && leb 2 (ofGroupOf ls 1 (countOf ls) 0)
+twoEachOf ls = leb 2 (ofGroupOf ls 0) && leb 2 (ofGroupOf ls 1)
 
 -- all but the work limit
 unfoldable pub admittedOf : Request → List ℕ → Bool

@@ -12,7 +12,9 @@ pub record Given : Type 0 where
 abbrev pub given : ℕ → List Float → List ℕ → Given
 given value numbers counts = record { value = value; numbers = numbers; counts = counts }
 
+-- two answers that meet one equation agree in each part
+pub agree : {G A : Type 0} (part : G → A) (g x y : G) → x ≡ g → y ≡ g → part x ≡ part y
+agree part g x y p q = ap part (p ∙ sym q)
+
 pub one-given : (g : Given) (r s : ℕ) (n m : List Float) (c d : List ℕ) → given r n c ≡ g → given s m d ≡ g → (r ≡ s) × (n ≡ m) × (c ≡ d)
-one-given g r s n m c d p q =
-    let e : given r n c ≡ given s m d = p ∙ sym q in
-    (ap (λ (x : Given). x .value) e, ap (λ (x : Given). x .numbers) e, ap (λ (x : Given). x .counts) e)
+one-given g r s n m c d p q = (agree (λ (x : Given). x .value) g _ _ p q, agree (λ (x : Given). x .numbers) g _ _ p q, agree (λ (x : Given). x .counts) g _ _ p q)

@@ -1,8 +1,9 @@
 -- The group summary: for each group the number of litters, successes, trials and extreme litters.
 use mathlib.Core.Bool.{Bool, _||_, cond}
 use mathlib.Core.List.{List, [], _∷_, _++_}
-use Prim.Native.Nat.{ℕ, zero, suc, _+_, _<_}
+use Prim.Native.Nat.{ℕ, _+_, _<_}
 use lib.Dec.{eqb}
+use Rattle.num.specs.Sum.{sumFrom}
 use Rattle.work.specs.declared.Ending.the-variants.{Answered, InvalidInput}
 use Rattle.litters.specs.Litters.{countOf, successesAt, totalAt, groupAt}
 use Rattle.litters.specs.Valid.{validLittersOf}
@@ -33,10 +34,13 @@ ownCounts successes total = record { litters = 1; successes = successes; trials 
 unfoldable pub litterCountsOf : ℕ → ℕ → ℕ → ℕ → GroupCounts
 litterCountsOf asked successes total group = cond (eqb group asked) (ownCounts successes total) noCounts
 
+-- what the i-th litter adds to them
+abbrev pub litterCountsAt : List ℕ → ℕ → ℕ → GroupCounts
+litterCountsAt ls asked i = litterCountsOf asked (successesAt ls i) (totalAt ls i) (groupAt ls i)
+
 -- a group's counts over n litters from the i-th on, valid or not
-unfoldable pub countsFrom : List ℕ → ℕ → ℕ → ℕ → GroupCounts
-countsFrom ls asked zero i = noCounts
-countsFrom ls asked (suc n) i = plusOf (litterCountsOf asked (successesAt ls i) (totalAt ls i) (groupAt ls i)) (countsFrom ls asked n (i + 1))
+abbrev pub countsFrom : List ℕ → ℕ → ℕ → ℕ → GroupCounts
+countsFrom ls asked n i = sumFrom plusOf noCounts (litterCountsAt ls asked) n i
 
 unfoldable pub countsOf : List ℕ → ℕ → GroupCounts
 countsOf ls asked = countsFrom ls asked (countOf ls) 0

@@ -12,6 +12,8 @@ use Rattle.work.specs.Ended.{Ended, done, stopped, short, invalid, domain, endO
 use Rattle.work.specs.Metered.{split}
 use Rattle.descent.specs.declared.Status.{Status}
 use Rattle.descent.specs.declared.Status.the-variants.{NoStatus, Converged, EvaluationLimit, IterationLimit, LineSearchFailed}
+use Rattle.descent.specs.declared.Trial.{Trial}
+use Rattle.descent.specs.declared.Trial.the-variants.{NotDownhill, NotMoved, TooLittle, ByDecrease, ByRounding, CutOff}
 use Rattle.work.specs.Through.{Open, Driven}
 use Rattle.descent.specs.Descent.{Asked, Descended}
 use Rattle.value.specs.declared.Totals.{Totals}
@@ -102,6 +104,15 @@ by-ending n short u q litter = refl
 
 pub stop-is : (n : ℕ) (d : Driven (Asked (List Float)) (Descended (List Float) Totals)) (litter : ℕ) → stopIn (shown n d) litter ≡ stopOf d litter
 stop-is n d litter = by-ending n (d .ended) (d .used) (d .asked) litter
+
+-- kinds and tests as a host is given them
+abbrev pub kindOf : Trial → ℕ
+kindOf (NotDownhill slope) = 1
+kindOf NotMoved = 2
+kindOf (TooLittle missed) = 3
+kindOf (ByDecrease slope) = 4
+kindOf (ByRounding allowance) = 5
+kindOf CutOff = 6
 
 abbrev pub testNumber : Test → ℕ
 testNumber NoTest = 0

@@ -1,8 +1,9 @@
 -- `check` meets its contract, by its test.
 use borrow.Author.Needs.{needs}
 use Rattle.num.specs.Choose.{choose}
+use Rattle.archive.specs.Shaped.{shape-holds}
 use Rattle.archive_check.specs.Check.{checkOf}
-use Rattle.archive_check.proofs.Laws.{count-long, shape-of, check-holds}
+use Rattle.archive_check.proofs.Laws.{count-long, check-holds}
 use Rattle.archive_check.proofs.check.Statement.{statement}
 use Rattle.archive_check.proofs.check.Tie as tie
 
@@ -20,5 +21,5 @@ check-spec =
     (λ c κs. search needs)
     returns
     (λ c κs. search (count-long, choose))
-    (λ c κs. (search (shape-of, choose), search needs))
+    (λ c κs. (search (shape-holds, choose), search needs))
     returns-2)

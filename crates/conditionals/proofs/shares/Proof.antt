@@ -4,8 +4,8 @@ use Prim.Native.Nat.{_-_}
 use borrow.Author.Needs.{needs}
 use lib.ListN.{getD}
 use lib.Ieee.{nan}
-use Rattle.lanes.specs.Lanes.{values}
-use Rattle.lanes.specs.Filled.{turns, ends, Filling}
+use Rattle.num.specs.Values.{values}
+use Rattle.num.specs.Filled.{turns, ends, Filling}
 use Rattle.conditionals.specs.Conditionals.{shareAt}
 use Rattle.conditionals.proofs.Laws.{share-log, share-moment, all-five}
 use Rattle.conditionals.proofs.shares.Statement.{statement}

@@ -9,22 +9,17 @@ use borrow.Author.Needs.{needs}
 use lib.Dec.{T, leb, leb→le, nleb→lt}
 use lib.Pow.{pow-mono}
 use Rattle.root.specs.Pencil.{taken-at-most}
+use Rattle.decimal.specs.Steps.{Dividing}
 use Rattle.decimal.proofs.divided.Statement.{statement}
 use Rattle.decimal.proofs.divided.Tie as tie
 
-record On (num den digits rest places : ℕ) : Type 0 where
-  same : digits * den + rest ≡ num * 2 ^ places
-  less : rest < den
-  few : digits < 2 ^ 54
-  within : places ≤ 107
-
 abbrev Inv-loop : tie.InvT-loop
-Inv-loop num den digits₀ rest₀ places₀ digits rest places = On num den digits rest places
+Inv-loop num den digits₀ rest₀ places₀ digits rest places = Dividing num den digits rest places
 
 abbrev μ-loop : tie.MeasureT-loop
 μ-loop num den digits₀ rest₀ places₀ digits rest places = 107 - places
 
-start : (num den : ℕ) → 0 < den → num < 2 ^ 54 * den → On num den (num / den) (num % den) 0
+start : (num den : ℕ) → 0 < den → num < 2 ^ 54 * den → Dividing num den (num / den) (num % den) 0
 start num den p h =
     let e : num ≡ num * 2 ^ 0 = omega arith in
     record { same = div-add-mod' num den ∙ e; less = mod-lt num p; few = div-lt-iff-lt-mul p .1 h; within = omega arith }
@@ -39,10 +34,10 @@ room num den q rest n h s f l e =
 twice : (num n : ℕ) → num * 2 ^ (n + 1) ≡ 2 * (num * 2 ^ n)
 twice num n = rw add-one (ap (λ (x : ℕ). num * x) (pow-succ' 2 n) ∙ mul-left-comm num 2 (2 ^ n))
 
-turn : (num den q rest n : ℕ) → 0 < num → den < 2 ^ 54 → q < 2 ^ 53 → On num den q rest n → let goes = leb den (2 * rest) in On num den (2 * q + cond goes 1 0) (2 * rest - cond goes den 0) (n + 1)
+turn : (num den q rest n : ℕ) → 0 < num → den < 2 ^ 54 → q < 2 ^ 53 → Dividing num den q rest n → let goes = leb den (2 * rest) in Dividing num den (2 * q + cond goes 1 0) (2 * rest - cond goes den 0) (n + 1)
 turn num den q rest n h s f o = go (leb den (2 * rest)) (leb→le den (2 * rest)) (nleb→lt den (2 * rest))
   where
-    go : (b : Bool) → (T b → den ≤ 2 * rest) → (T (not b) → 2 * rest < den) → On num den (2 * q + cond b 1 0) (2 * rest - cond b den 0) (n + 1)
+    go : (b : Bool) → (T b → den ≤ 2 * rest) → (T (not b) → 2 * rest < den) → Dividing num den (2 * q + cond b 1 0) (2 * rest - cond b den 0) (n + 1)
     go true a b =
         let i = a tt in
         record { same = rw twice (omega (arith, o .same)); less = omega (arith, o .less); few = omega arith; within = omega (arith, room num den q rest n h s f (o .less) (o .same)) }
@@ -63,9 +58,7 @@ loop-again c =
     rw (c .taken-of .ensures, c .before .digit-of .ensures .0) (turn _ _ _ _ _ (p .0) (p .2) (omega (arith, d .loop-test .taken)) (d .before .loop .inv))
 
 returns : tie.Need-returns Inv-loop μ-loop
-returns c =
-    let o = c .before .loop .inv in
-    record { same = o .same; less = o .less; full = c .loop-test .left; few = o .few; within = o .within }
+returns c = record { last = c .before .loop .inv; full = c .loop-test .left }
 
 pub divided-spec : {M : Type 1} → statement M
 divided-spec =

@@ -1,11 +1,12 @@
 -- `counts` meets its contract, as the counts so far and those of the litters still to come make the whole.
-use mathlib.Core.Path.{_≡_, refl}
+use mathlib.Core.Path.{_≡_, refl, ap, _∙_}
 use Prim.Native.Nat.{_+_, _-_, _*_, _/_}
 use native.Mathlib.Omega.{arith}
 use lib.ListN.{length}
-use Rattle.summary.specs.Summary.{plusOf, countsFrom, countsOf}
+use Rattle.num.specs.Sum.{sum-begins, sum-turns, sum-ends}
+use Rattle.summary.specs.Summary.{noCounts, plusOf, countsFrom, countsOf}
 use Rattle.summary.specs.Most.{Below, none-most, adds, more}
-use Rattle.summary.proofs.Laws.{counts-begin, counts-turn, counts-done}
+use Rattle.summary.proofs.Laws.{plus-assoc, plus-none, none-plus}
 use borrow.Author.Needs.{needs}
 use Rattle.summary.proofs.counts.Statement.{statement}
 use Rattle.summary.proofs.counts.Tie as tie
@@ -17,7 +18,8 @@ abbrev μ-loop : tie.MeasureT-loop
 μ-loop litters asked n c₀ i₀ c i = n - i
 
 loop-holds : tie.Need-loop-holds Inv-loop μ-loop
-loop-holds c = (refl, rw (c .no-counts .ensures) (none-most _), rw (c .no-counts .ensures) (counts-begin _ _))
+unfolding countsOf
+loop-holds c = (refl, rw (c .no-counts .ensures) (none-most _), rw (c .no-counts .ensures) (sum-begins plusOf noCounts _ none-plus _))
 
 plus-requires : tie.Need-plus-requires Inv-loop μ-loop
 plus-requires c κs =
@@ -36,10 +38,10 @@ loop-again c =
     let number = known .shared-slice-known2 .given in
     let v = l .loop .inv in
     let one = d .litter-counts .ensures in
-    (v .0, more _ _ _ _ _ _ one (omega (arith, number (3 * i))) (omega (arith, number (3 * i + 1))) i (v .1) _ (c .plus .ensures), counts-turn _ _ _ _ _ _ (v .2) _ _ (known .before .loop-test .taken) one (c .plus .ensures))
+    (v .0, more _ _ _ _ _ _ one (omega (arith, number (3 * i))) (omega (arith, number (3 * i + 1))) i (v .1) _ (c .plus .ensures), sum-turns plusOf noCounts _ _ _ _ _ (v .2) plus-assoc _ (known .before .loop-test .taken) (c .plus .ensures ∙ ap (plusOf (l .loop .c)) one))
 
 returns : tie.Need-returns Inv-loop μ-loop
-returns c = (search counts-done, refl)
+returns c = (sum-ends plusOf noCounts _ _ _ _ _ (c .before .loop .inv .2) plus-none (c .loop-test .left), refl)
 
 pub counts-spec : {M : Type 1} → statement M
 counts-spec =

@@ -4,7 +4,7 @@ use Prim.Native.Nat.{zero-le}
 use native.Mathlib.Omega.{arith}
 use lib.Seq.{length-take-le}
 use borrow.Author.Needs.{needs}
-use Rattle.print.specs.Room.{refusal-fits, answer-fits}
+use Rattle.print.specs.Room.{whole-answer, refusal-fits, answer-fits}
 use Rattle.text.proofs.Laws.{answer-form, answer-many, answer-fit, buffer-length}
 use Rattle.text.proofs.answer.Statement.{statement}
 use Rattle.text.proofs.answer.Tie as tie
@@ -18,7 +18,7 @@ no-form c =
     let t = f .before .before in
     let q = t .before .before in
     let e = answer-form _ _ (q .request .result) _ (q .request .ensures) (t .if2 .taken) in
-    ((λ h. absurd (omega (arith, q .before .before .if1 .left))), ((λ h. rw (← e) (f .refusal .ensures)), omega (arith, f .refusal .ensures .0, refusal-fits 4 0 (q .request .result .line))))
+    whole-answer _ _ _ _ _ (q .before .before .if1 .left) e (f .refusal .ensures) (omega (arith, refusal-fits 4 0 (q .request .result .line)))
 
 many : tie.Need-returns-3
 many c =
@@ -27,7 +27,7 @@ many c =
     let l = t .before .before in
     let q = l .before .before in
     let e = answer-many _ _ (q .request .result) _ (q .request .ensures) (l .if2 .left) (t .if3 .taken) in
-    ((λ h. absurd (omega (arith, q .before .before .if1 .left))), ((λ h. rw (← e) (f .refusal2 .ensures)), omega (arith, f .refusal2 .ensures .0, refusal-fits 1 0 0)))
+    whole-answer _ _ _ _ _ (q .before .before .if1 .left) e (f .refusal2 .ensures) (omega (arith, refusal-fits 1 0 0))
 
 -- the places of the litters in the buffer
 inside : tie.Need-array-share-prefix-litters
@@ -45,7 +45,7 @@ fits c =
     let l = t .before .before in
     let q = l .before .before in
     let e = answer-fit _ _ (q .request .result) _ (q .request .ensures) (l .if2 .left) refl (t .if3 .left) in
-    ((λ h. absurd (omega (arith, q .before .before .if1 .left))), ((λ h. rw (← e, ← v .request2 .ensures) (f .fitted .ensures)), rw (f .fitted .ensures .0) (answer-fits _)))
+    whole-answer _ _ _ _ _ (q .before .before .if1 .left) (rw (v .request2 .ensures) e) (f .fitted .ensures) (answer-fits _)
 
 pub answer-spec : {M : Type 1} → statement M
 answer-spec =

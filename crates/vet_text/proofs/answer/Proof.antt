@@ -4,7 +4,7 @@ use Prim.Native.Nat.{zero-le}
 use native.Mathlib.Omega.{arith}
 use lib.Seq.{length-take-le}
 use borrow.Author.Needs.{needs}
-use Rattle.print.specs.Room.{refusal-fits}
+use Rattle.print.specs.Room.{whole-answer, refusal-fits}
 use Rattle.vet_text.specs.Answered.{vetted-fits}
 use Rattle.vet_text.proofs.Laws.{answer-form, answer-many, answer-vet, buffer-length}
 use Rattle.vet_text.proofs.answer.Statement.{statement}
@@ -19,7 +19,7 @@ no-form c =
     let t = f .before .before in
     let q = t .before .before in
     let e = answer-form _ _ (q .claimed .result) _ (q .claimed .ensures) (t .if2 .taken) in
-    ((λ h. absurd (omega (arith, q .before .before .if1 .left))), ((λ h. rw (← e) (f .refusal .ensures)), omega (arith, f .refusal .ensures .0, refusal-fits 4 0 (q .claimed .result .line))))
+    whole-answer _ _ _ _ _ (q .before .before .if1 .left) e (f .refusal .ensures) (omega (arith, refusal-fits 4 0 (q .claimed .result .line)))
 
 many : tie.Need-returns-3
 many c =
@@ -28,7 +28,7 @@ many c =
     let l = t .before .before in
     let q = l .before .before in
     let e = answer-many _ _ (q .claimed .result) _ (q .claimed .ensures) (l .if2 .left) (t .if3 .taken) in
-    ((λ h. absurd (omega (arith, q .before .before .if1 .left))), ((λ h. rw (← e) (f .refusal2 .ensures)), omega (arith, f .refusal2 .ensures .0, refusal-fits 1 0 0)))
+    whole-answer _ _ _ _ _ (q .before .before .if1 .left) e (f .refusal2 .ensures) (omega (arith, refusal-fits 1 0 0))
 
 -- the places of the litters in the buffer
 inside : tie.Need-array-share-prefix-litters
@@ -47,7 +47,7 @@ fits c =
     let l = t .before .before in
     let q = l .before .before in
     let e = answer-vet _ _ (q .claimed .result) _ (q .claimed .ensures) (l .if2 .left) refl (t .if3 .left) in
-    ((λ h. absurd (omega (arith, q .before .before .if1 .left))), ((λ h. rw (← e, ← v .request .ensures, ← w .claim-of .ensures) (f .judged .ensures)), rw (f .judged .ensures .0) (vetted-fits _)))
+    whole-answer _ _ _ _ _ (q .before .before .if1 .left) (rw (v .request .ensures, w .claim-of .ensures) e) (f .judged .ensures) (vetted-fits _)
 
 pub answer-spec : {M : Type 1} → statement M
 answer-spec =

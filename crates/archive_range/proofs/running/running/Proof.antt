@@ -3,15 +3,16 @@ use mathlib.Core.Path.{_≡_}
 use Prim.Native.Nat.{_+_, _-_, _*_, _/_, _≤_}
 use native.Mathlib.Omega.{arith}
 use borrow.Author.Needs.{needs}
+use Rattle.num.specs.Fold.{foldFrom, fold-turns, fold-ends}
 use Rattle.archive.specs.Counts.{BothBelow, capacity}
 use Rattle.archive.specs.Most.{raised}
-use Rattle.archive_range.specs.Reads.{littersFrom, summed, runningOf}
-use Rattle.archive_range.proofs.Laws.{sum-begin, sum-turn, sum-done}
+use Rattle.archive_range.specs.Reads.{runningOf}
+use Rattle.archive_range.proofs.Laws.{withLitter, sum-begin}
 use Rattle.archive_range.proofs.running.running.Statement.{statement}
 use Rattle.archive_range.proofs.running.running.Tie as tie
 
 abbrev Inv-loop : tie.InvT-loop
-Inv-loop b p c₀ i₀ c i = (i ≤ p) × BothBelow c (i + 1) × (summed b c (littersFrom (p - i) i) ≡ runningOf b p)
+Inv-loop b p c₀ i₀ c i = (i ≤ p) × BothBelow c (i + 1) × (foldFrom (withLitter b) (p - i) i c ≡ runningOf b p)
 
 abbrev μ-loop : tie.MeasureT-loop
 μ-loop b p c₀ i₀ c i = p - i
@@ -23,7 +24,7 @@ after-requires : tie.Need-after-requires Inv-loop μ-loop
 after-requires c κs = let l = c .before .loop in (raised _ (l .i + 1) capacity (omega arith) (l .inv .1), omega arith)
 
 loop-again : tie.Need-loop-again Inv-loop μ-loop
-loop-again c = let l = c .before .before .loop in (omega arith, c .after .ensures .1 (l .i + 1) (l .inv .1), search sum-turn)
+loop-again c = let l = c .before .before .loop in (omega arith, c .after .ensures .1 (l .i + 1) (l .inv .1), search fold-turns)
 
 pub running-spec : {M : Type 1} → statement M
 running-spec =
@@ -38,4 +39,4 @@ running-spec =
     (λ c. omega arith)
     (λ c. omega arith)
     loop-again
-    (λ c. search sum-done))
+    (λ c. search fold-ends))

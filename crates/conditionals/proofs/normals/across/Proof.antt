@@ -3,8 +3,8 @@ use mathlib.Core.Path.{refl}
 use Prim.Native.Nat.{_-_}
 use borrow.Author.Needs.{needs}
 use lib.Ieee.{neg}
+use Rattle.num.specs.Filled.{turns, ends, Filling}
 use Rattle.lanes.specs.Lanes.{nth}
-use Rattle.lanes.specs.Filled.{turns, ends, Filling}
 use Rattle.conditionals.specs.Normals.{acrossOf}
 use Rattle.conditionals.proofs.normals.across.Statement.{statement}
 use Rattle.conditionals.proofs.normals.across.Tie as tie

@@ -5,7 +5,7 @@ use borrow.Author.Needs.{needs}
 use lib.ListN.{getD}
 use lib.Ieee.{nan}
 use Rattle.num.specs.F64.{_⊖_}
-use Rattle.lanes.specs.Filled.{turns, ends, Filling}
+use Rattle.num.specs.Filled.{turns, ends, Filling}
 use Rattle.normal.specs.Normal.{logPhiOf}
 use Rattle.conditionals.specs.Normals.{gapsOf}
 use Rattle.conditionals.proofs.NormalsLaws.{gap}

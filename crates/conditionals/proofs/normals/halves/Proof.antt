@@ -5,9 +5,9 @@ use borrow.Author.Needs.{needs}
 use lib.ListN.{getD}
 use lib.Ieee.{nan, neg}
 use Rattle.num.specs.F64.{_⊗_, half·}
+use Rattle.num.specs.Values.{values}
+use Rattle.num.specs.Filled.{turns, ends, Filling}
 use Rattle.elementary.specs.Erfc.{erfcOf}
-use Rattle.lanes.specs.Lanes.{values}
-use Rattle.lanes.specs.Filled.{turns, ends, Filling}
 use Rattle.conditionals.proofs.NormalsLaws.{size-at, half, both-arrays}
 use Rattle.conditionals.proofs.normals.halves.Statement.{statement}
 use Rattle.conditionals.proofs.normals.halves.Tie as tie

@@ -4,9 +4,10 @@ use mathlib.Core.List.{_++_}
 use Prim.Native.Nat.{_-_}
 use borrow.Author.Needs.{needs}
 use lib.ListN.{length, take}
+use Rattle.num.specs.Values.{values}
+use Rattle.num.specs.Filled.{turns, ends}
 use Rattle.normal.specs.Twins.{sizeOf}
-use Rattle.lanes.specs.Lanes.{values, nth}
-use Rattle.lanes.specs.Filled.{turns, ends}
+use Rattle.lanes.specs.Lanes.{nth}
 use Rattle.conditionals.specs.Normals.{sizesOf}
 use Rattle.conditionals.proofs.normals.sizes.Statement.{statement}
 use Rattle.conditionals.proofs.normals.sizes.Tie as tie

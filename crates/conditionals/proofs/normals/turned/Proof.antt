@@ -6,9 +6,9 @@ use borrow.Author.Needs.{needs}
 use lib.ListN.{length, take, getD}
 use lib.Ieee.{nan, neg}
 use Rattle.num.specs.F64.{_⊘_}
+use Rattle.num.specs.Values.{values}
+use Rattle.num.specs.Filled.{turns, ends}
 use Rattle.normal.specs.Normal.{sqrt-two}
-use Rattle.lanes.specs.Lanes.{values}
-use Rattle.lanes.specs.Filled.{turns, ends}
 use Rattle.conditionals.specs.Normals.{turnedOf}
 use Rattle.conditionals.proofs.normals.turned.Statement.{statement}
 use Rattle.conditionals.proofs.normals.turned.Tie as tie

@@ -5,7 +5,7 @@ use borrow.Author.Needs.{needs}
 use lib.ListN.{getD}
 use lib.Ieee.{nan}
 use Rattle.num.specs.F64.{_⊕_, _⊘_}
-use Rattle.lanes.specs.Filled.{turns, ends, Filling}
+use Rattle.num.specs.Filled.{turns, ends, Filling}
 use Rattle.conditionals.specs.Tails.{deeperOf}
 use Rattle.conditionals.proofs.tails.deeper.Statement.{statement}
 use Rattle.conditionals.proofs.tails.deeper.Tie as tie

@@ -3,7 +3,7 @@ use mathlib.Core.Path.{_≡_, refl}
 use native.Mathlib.Omega.{arith}
 use borrow.Author.Needs.{needs}
 use lib.ListN.{length}
-use Rattle.lanes.specs.Lanes.{values}
+use Rattle.num.specs.Values.{values}
 use Rattle.normal.specs.Normal.{fractionOf}
 use Rattle.conditionals.specs.Tails.{fractionsOf}
 use Rattle.conditionals.proofs.TailsLaws.{still, fractions-turn, fractions-long, fractions-end}

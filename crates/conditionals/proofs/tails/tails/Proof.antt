@@ -2,8 +2,8 @@
 use mathlib.Core.Path.{refl}
 use Prim.Native.Nat.{_-_}
 use borrow.Author.Needs.{needs}
-use Rattle.lanes.specs.Lanes.{values}
-use Rattle.lanes.specs.Filled.{turns, ends, Filling}
+use Rattle.num.specs.Values.{values}
+use Rattle.num.specs.Filled.{turns, ends, Filling}
 use Rattle.conditionals.specs.Tails.{tailsAt}
 use Rattle.conditionals.proofs.TailsLaws.{the-log, the-mills, tails-both}
 use Rattle.conditionals.proofs.tails.tails.Statement.{statement}

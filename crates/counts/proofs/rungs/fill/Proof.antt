@@ -5,8 +5,9 @@ use Prim.Native.Nat.{ℕ, _+_, _-_, _*_, _≤_, _<_}
 use native.Mathlib.Omega.{arith}
 use lib.ListN.{length}
 use lib.Ieee.{Float}
+use Rattle.num.specs.Fold.{foldFrom}
 use Rattle.counts.specs.declared.share.Rising.{Rising}
-use Rattle.counts.specs.Share.{noRising, termAt, passedOf, risingFrom, risenOf}
+use Rattle.counts.specs.Share.{noRising, termAt, passedOf, risenOf}
 use Rattle.counts.specs.Rungs.{setRungOf, Held, held-none, held-next, rising-next}
 use borrow.Author.Needs.{needs}
 use Rattle.counts.proofs.rungs.fill.Statement.{statement}
@@ -19,7 +20,7 @@ record Filled (shape : Float) (top : ℕ) (l : List Float) (s : Rising) (k : ℕ
   sums : s ≡ risenOf shape k
 
 begins : (shape : Float) (top : ℕ) (l m : List Float) (s : Rising) → top ≤ 63 → length l ≡ 192 → s ≡ noRising → m ≡ setRungOf l 0 s → Filled shape top m s 0
-unfolding risingFrom risenOf
+unfolding foldFrom risenOf
 begins shape top l m s a n z e = record { few = a; within = omega arith; held = held-none shape l m s z n e; sums = z }
 
 module _ (shape : Float) (top : ℕ) (l : List Float) (s : Rising) (k : ℕ) (f : Filled shape top l s k) where

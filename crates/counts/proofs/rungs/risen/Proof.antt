@@ -5,9 +5,9 @@ use Prim.Native.Nat.{ℕ, _+_, _-_, _*_, _≤_, _<_}
 use native.Mathlib.Omega.{arith}
 use lib.ListN.{length}
 use lib.Ieee.{Float}
-use Rattle.num.specs.Left.{left-one, left-none}
+use Rattle.num.specs.Fold.{fold-turns, fold-ends}
 use Rattle.counts.specs.declared.share.Rising.{Rising}
-use Rattle.counts.specs.Share.{termAt, passedOf, risingFrom, risenOf}
+use Rattle.counts.specs.Share.{risingFrom, risenOf}
 use Rattle.counts.specs.Rungs.{rungAtOf, Held, rising-on}
 use borrow.Author.Needs.{needs}
 use Rattle.counts.proofs.rungs.risen.Statement.{statement}
@@ -20,15 +20,6 @@ module _ (shape : Float) (top : ℕ) (l : List Float) (h : Held shape top l) (k 
 
   begins : (n : ℕ) (s : Rising) → k ≤ n → s ≡ rungAtOf l k → risingFrom shape (n - k) k s ≡ risenOf shape n
   begins n s a e = rw (e ∙ h .holds k b) (rising-on shape n k a)
-
-module _ (shape : Float) (n k : ℕ) (s : Rising) (v : risingFrom shape (n - k) k s ≡ risenOf shape n) where
-  turns : (t : Rising) → k < n → t ≡ passedOf s (termAt shape k) → risingFrom shape (n - (k + 1)) (k + 1) t ≡ risenOf shape n
-  unfolding risingFrom
-  turns t h e = rw e (rw (left-one n k h) at v)
-
-  ends : n ≤ k → s ≡ risenOf shape n
-  unfolding risingFrom
-  ends h = rw (left-none n k h) at v
 
 abbrev Inv-loop : tie.InvT-loop
 Inv-loop shape count top rungs first s₀ k₀ s k = risingFrom shape (count - k) k s ≡ risenOf shape count
@@ -56,5 +47,5 @@ risen-spec =
     (λ c κs. search needs)
     (λ c. search needs)
     (λ c. search needs)
-    (λ c. search turns)
-    (λ c. search ends))
+    (λ c. search fold-turns)
+    (λ c. search fold-ends))

@@ -1,24 +1,14 @@
 -- `rows::events` meets its contract, as the counts still to come add to the sum the whole.
-use mathlib.Core.Path.{_≡_, sym, _∙_}
-use mathlib.Core.List.{List}
-use Prim.Native.Nat.{ℕ, _+_, _-_, _*_, _≤_, _<_}
-use native.Mathlib.Nat.{sub-zero, zero-add, add-zero, add-assoc}
+use mathlib.Core.Path.{_≡_, refl}
+use Prim.Native.Nat.{_+_, _-_, _*_, _≤_}
+use native.Mathlib.Nat.{zero-add, add-zero, add-assoc}
 use native.Mathlib.Omega.{arith}
 use lib.ListN.{length}
-use Rattle.num.specs.Left.{left-one, left-none}
+use Rattle.num.specs.Sum.{sum-begins, sum-turns, sum-ends}
 use Rattle.exposure.specs.Rows.{countAt, eventsFrom, eventsOf}
 use borrow.Author.Needs.{needs}
 use Rattle.exposure.proofs.rows.events.Statement.{statement}
 use Rattle.exposure.proofs.rows.events.Tie as tie
-
-module _ (cs : List ℕ) (n i sum : ℕ) (v : sum + eventsFrom cs (n - i) i ≡ eventsOf cs) where
-  turns : i < n → sum + countAt cs i + eventsFrom cs (n - (i + 1)) (i + 1) ≡ eventsOf cs
-  unfolding eventsFrom
-  turns h = rw add-assoc (rw (left-one n i h) at v)
-
-  ends : n ≤ i → sum ≡ eventsOf cs
-  unfolding eventsFrom
-  ends h = sym (add-zero sum) ∙ (rw (left-none n i h) at v)
 
 abbrev Inv-loop : tie.InvT-loop
 Inv-loop counts sum₀ i₀ i-end sum i = (i ≤ length counts) × (sum ≤ i * 4294967295) × (sum + eventsFrom counts (length counts - i) i ≡ eventsOf counts)
@@ -28,7 +18,7 @@ abbrev μ-loop : tie.MeasureT-loop
 
 loop-holds : tie.Need-loop-holds Inv-loop μ-loop
 unfolding eventsOf
-loop-holds c = let cs = c .args .counts .now in (omega arith, omega arith, rw (sub-zero (length cs), zero-add (eventsFrom cs (length cs) 0)))
+loop-holds c = let cs = c .args .counts .now in (omega arith, omega arith, sum-begins _+_ 0 (countAt cs) zero-add (length cs))
 
 -- a count is below 2^32, and the rows are few
 cast-sum : tie.Need-cast-sum Inv-loop μ-loop
@@ -48,7 +38,7 @@ loop-again c =
     let number = c .shared-slice-known .given in
     let i = l .loop .inv in
     let t = c .before .loop-test .taken in
-    (omega arith, omega (arith, number (l .loop .i)), turns _ _ _ _ (i .2) t)
+    (omega arith, omega (arith, number (l .loop .i)), sum-turns _+_ 0 _ _ _ _ _ (i .2) add-assoc _ t refl)
 
 pub events-spec : {M : Type 1} → statement M
 events-spec =
@@ -64,4 +54,4 @@ events-spec =
     (λ c. search needs)
     (λ c. search needs)
     loop-again
-    (λ c. ends _ _ _ _ (c .before .loop .inv .2) (c .loop-test .left)))
+    (λ c. sum-ends _+_ 0 _ _ _ _ _ (c .before .loop .inv .2) add-zero (c .loop-test .left)))

@@ -3,15 +3,15 @@ use mathlib.Core.Path.{_≡_, refl}
 use Prim.Native.Nat.{_-_}
 use native.Mathlib.Nat.{sub-zero}
 use lib.ListN.{length}
-use Rattle.intervals.specs.Factor.{factorFrom, factoredOf}
-use Rattle.intervals.proofs.Laws.{factor-stops, factor-turn, factor-done}
+use Rattle.intervals.specs.Factor.{heldFrom, lineAt, factoredOf}
+use Rattle.intervals.proofs.Laws.{held-stops, held-turns, held-ends}
 use borrow.Author.Needs.{needs}
 use Rattle.num.specs.Choose.{choose}
 use Rattle.intervals.proofs.factor.factored.Statement.{statement}
 use Rattle.intervals.proofs.factor.factored.Tie as tie
 
 abbrev Inv-loop : tie.InvT-loop
-Inv-loop covariance errors l₀ i₀ i-end l i = factorFrom covariance errors (length errors - i) i l ≡ factoredOf covariance errors
+Inv-loop covariance errors l₀ i₀ i-end l i = heldFrom (lineAt covariance errors) (length errors - i) i l ≡ factoredOf covariance errors
 
 abbrev μ-loop : tie.MeasureT-loop
 μ-loop covariance errors l₀ i₀ i-end l i = length errors - i
@@ -30,8 +30,8 @@ factored-spec =
     (λ c. search needs)
     (λ c. search needs)
     (λ c κs. search needs)
-    (λ c. (search (factor-stops, choose) fits 8000 depth 8, refl, refl))
+    (λ c. (search (held-stops, choose) fits 8000 depth 8, refl, refl))
     (λ c. search needs)
     (λ c. search needs)
-    (λ c. search (factor-turn, choose) fits 8000 depth 8)
-    (λ c. (search (factor-done, choose) fits 8000 depth 8, refl, refl)))
+    (λ c. search (held-turns, choose) fits 8000 depth 8)
+    (λ c. (search (held-ends, choose) fits 8000 depth 8, refl, refl)))

@@ -5,10 +5,10 @@ use Prim.Native.Nat.{_-_}
 use borrow.Author.Needs.{needs}
 use lib.ListN.{length, take, getD}
 use lib.Ieee.{nan}
+use Rattle.num.specs.Values.{values}
+use Rattle.num.specs.Filled.{turns, ends}
 use Rattle.elementary.specs.Erfc.{erfcPlace}
-use Rattle.lanes.specs.Lanes.{values}
 use Rattle.lanes.specs.ErfcParts.{erfcPlaces}
-use Rattle.lanes.specs.Filled.{turns, ends}
 use Rattle.lanes.proofs.erfc.places.Statement.{statement}
 use Rattle.lanes.proofs.erfc.places.Tie as tie
 

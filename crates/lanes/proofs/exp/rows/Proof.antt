@@ -4,10 +4,10 @@ use mathlib.Core.List.{_++_}
 use Prim.Native.Nat.{_-_, _%_}
 use borrow.Author.Needs.{needs}
 use lib.ListN.{length, take, getD}
+use Rattle.num.specs.Values.{values}
+use Rattle.num.specs.Filled.{turns, ends}
 use Rattle.tables.specs.Exp.{expRowOf}
-use Rattle.lanes.specs.Lanes.{values}
 use Rattle.lanes.specs.ExpParts.{expRowsFor}
-use Rattle.lanes.specs.Filled.{turns, ends}
 use Rattle.lanes.proofs.exp.rows.Statement.{statement}
 use Rattle.lanes.proofs.exp.rows.Tie as tie
 

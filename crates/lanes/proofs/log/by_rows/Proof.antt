@@ -4,10 +4,10 @@ use mathlib.Core.List.{_++_}
 use Prim.Native.Nat.{_-_}
 use borrow.Author.Needs.{needs}
 use lib.ListN.{length, take, getD}
+use Rattle.num.specs.Values.{values}
+use Rattle.num.specs.Filled.{turns, ends}
 use Rattle.elementary.specs.Log.{logByRow}
-use Rattle.lanes.specs.Lanes.{values}
 use Rattle.lanes.specs.LogParts.{rowIn, logsByRow}
-use Rattle.lanes.specs.Filled.{turns, ends}
 use Rattle.lanes.proofs.log.by_rows.Statement.{statement}
 use Rattle.lanes.proofs.log.by_rows.Tie as tie
 

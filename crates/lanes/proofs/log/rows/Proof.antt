@@ -3,9 +3,9 @@ use mathlib.Core.Path.{refl}
 use Prim.Native.Nat.{_-_}
 use borrow.Author.Needs.{needs}
 use lib.ListN.{getD}
+use Rattle.num.specs.Values.{values}
+use Rattle.num.specs.Filled.{turns, ends, Filling}
 use Rattle.elementary.specs.Log.{logRowAt}
-use Rattle.lanes.specs.Lanes.{values}
-use Rattle.lanes.specs.Filled.{turns, ends, Filling}
 use Rattle.lanes.proofs.LogLaws.{the-centre, the-inverse, the-high, the-low, all-four}
 use Rattle.lanes.proofs.log.rows.Statement.{statement}
 use Rattle.lanes.proofs.log.rows.Tie as tie

@@ -6,8 +6,8 @@ use borrow.Author.Needs.{needs}
 use lib.ListN.{length, take, getD}
 use lib.Ieee.{nan}
 use Rattle.num.specs.F64.{_⊕_, _⊗_}
-use Rattle.lanes.specs.Lanes.{values}
-use Rattle.lanes.specs.Filled.{turns, ends}
+use Rattle.num.specs.Values.{values}
+use Rattle.num.specs.Filled.{turns, ends}
 use Rattle.nodes.specs.Stages.{etasOf}
 use Rattle.nodes.proofs.stages.etas.Statement.{statement}
 use Rattle.nodes.proofs.stages.etas.Tie as tie

@@ -5,8 +5,8 @@ use Prim.Native.Nat.{_-_}
 use borrow.Author.Needs.{needs}
 use lib.ListN.{length, take, getD}
 use lib.Ieee.{nan}
-use Rattle.lanes.specs.Lanes.{values}
-use Rattle.lanes.specs.Filled.{turns, ends}
+use Rattle.num.specs.Values.{values}
+use Rattle.num.specs.Filled.{turns, ends}
 use Rattle.nodes.specs.Stages.{heightOf, heightsOf}
 use Rattle.nodes.proofs.stages.heights.Statement.{statement}
 use Rattle.nodes.proofs.stages.heights.Tie as tie

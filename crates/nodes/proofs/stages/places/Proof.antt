@@ -4,8 +4,8 @@ use mathlib.Core.List.{_++_}
 use Prim.Native.Nat.{_-_}
 use borrow.Author.Needs.{needs}
 use lib.ListN.{length, take, getD}
-use Rattle.lanes.specs.Lanes.{values}
-use Rattle.lanes.specs.Filled.{turns, ends}
+use Rattle.num.specs.Values.{values}
+use Rattle.num.specs.Filled.{turns, ends}
 use Rattle.nodes.specs.Node.{noPair, nodeOf}
 use Rattle.nodes.specs.Stages.{placesOf}
 use Rattle.nodes.proofs.stages.places.Statement.{statement}

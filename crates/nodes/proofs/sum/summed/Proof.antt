@@ -2,13 +2,13 @@
 use mathlib.Core.Path.{_≡_, refl}
 use Prim.Native.Nat.{_-_}
 use borrow.Author.Needs.{needs}
-use Rattle.nodes.specs.Stages.{summedFrom, summedOf}
-use Rattle.nodes.proofs.Laws.{sum-turns, sum-ends}
+use Rattle.num.specs.Fold.{foldFrom, fold-turns, fold-ends}
+use Rattle.nodes.specs.Stages.{withNodeOf, summedOf}
 use Rattle.nodes.proofs.sum.summed.Statement.{statement}
 use Rattle.nodes.proofs.sum.summed.Tie as tie
 
 abbrev Inv-loop : tie.InvT-loop
-Inv-loop width rule e m s₀ i₀ s i = summedFrom width rule e m (16 - i) i s ≡ summedOf width rule e m s₀
+Inv-loop width rule e m s₀ i₀ s i = foldFrom (withNodeOf width rule e m) (16 - i) i s ≡ summedOf width rule e m s₀
 
 abbrev μ-loop : tie.MeasureT-loop
 μ-loop width rule e m s₀ i₀ s i = 16 - i
@@ -41,5 +41,5 @@ summed-spec =
     (λ c κs. search needs)
     (λ c. search needs)
     (λ c. search needs)
-    (λ c. search sum-turns)
-    (λ c. search sum-ends))
+    (λ c. search fold-turns)
+    (λ c. search fold-ends))

@@ -7,8 +7,8 @@ use native.Mathlib.Numerals.{add-one}
 use native.Mathlib.Omega.{arith}
 use lib.ListN.{length, take, set, getD}
 use lib.Seq.{take-all, take-suc-set, ext-getD}
 use Rattle.num.specs.Left.{left-one, left-none}
-use Rattle.lanes.specs.Lanes.{values}
+use Rattle.num.specs.Values.{values}
 
 module _ {A : Type 0} (g : ℕ → A) (all v : List A) (i : ℕ) (n : length v ≡ 16) (h : take i v ++ values g (16 - i) i ≡ all) where
   pub turns : (p : A) → i < 16 → p ≡ g i → take (i + 1) (set v i p) ++ values g (16 - (i + 1)) (i + 1) ≡ all
