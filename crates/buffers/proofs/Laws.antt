@@ -8,11 +8,10 @@ use lib.ListN.{length}
 use lib.Ieee.{Float}
 use Rattle.summary.specs.Summary.{listedOf}
 use Rattle.work.specs.Ended.{numberOf}
-use Rattle.objective.specs.declared.sum.Objective.{Objective}
 use Rattle.summary.specs.declared.Summary.{Summary}
 use Rattle.fit.specs.declared.report.Fit.{Fit}
 use Rattle.store.specs.Stored.{stored}
-use Rattle.buffers.specs.Buffers.{firstNumbersOf, allNumbersOf, fitNumbersOf, fitCountsOf, putFitOf, objectiveNumbersOf, objectiveCountsOf, putObjectiveOf, putSummaryOf}
+use Rattle.buffers.specs.Buffers.{firstNumbersOf, allNumbersOf, fitNumbersOf, putSummaryOf}
 use Rattle.store.specs.Given.{given}
 
 -- by the room for a fit's numbers
@@ -24,14 +23,6 @@ module _ (f : Fit) (l m v : List Float) where
   pub first-put : leb 28 (length l) ≡ false → v ≡ firstNumbersOf f → m ≡ stored l v → m ≡ stored l (fitNumbersOf f (length l))
   unfolding fitNumbersOf
   first-put t a p = rw (t, ← a) p
-
-pub put-fit-is : (f : Fit) (l m : List Float) (c d w : List ℕ) (r : ℕ) → w ≡ fitCountsOf f → m ≡ stored l (fitNumbersOf f (length l)) → d ≡ stored c w → r ≡ numberOf (f .end) → given r m d ≡ putFitOf f l c
-unfolding putFitOf
-put-fit-is f l m c d w r b p q e = rw (p, q, e, b)
-
-pub put-objective-is : (o : Objective) (l m v : List Float) (c d w : List ℕ) (r : ℕ) → v ≡ objectiveNumbersOf o → w ≡ objectiveCountsOf o → m ≡ stored l v → d ≡ stored c w → r ≡ numberOf (o .end) → given r m d ≡ putObjectiveOf o l c
-unfolding putObjectiveOf
-put-objective-is o l m v c d w r a b p q e = rw (p, q, e, a, b)
 
 pub put-summary-is : (s : Summary) (c d w : List ℕ) (r : ℕ) → w ≡ listedOf (s .first) (s .second) → d ≡ stored c w → r ≡ numberOf (s .end) → given r [] d ≡ putSummaryOf s c
 unfolding putSummaryOf

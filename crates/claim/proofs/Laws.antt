@@ -7,12 +7,9 @@ use lib.Ieee.{Float, le}
 use Rattle.work.specs.Ended.{isRefused, reasonOf}
 use Rattle.objective.specs.declared.sum.Objective.{Objective}
 use Rattle.trial.specs.Judged.{normAtOf}
-use Rattle.store.specs.Stored.{stored}
-use Rattle.store.specs.Given.{given}
 use Rattle.claim.specs.declared.Vetted.{Vetted}
 use Rattle.claim.specs.declared.Verdict.the-variants.{Domain, LikelihoodDiffers, NormAbove}
-use Rattle.claim.specs.Claim.{numberOf, sameBitsOf, refusalOf, acceptedOf, judgedOf}
-use Rattle.claim.specs.Give.{vettedNumbersOf, vettedCountsOf, putVettedOf}
+use Rattle.claim.specs.Claim.{sameBitsOf, refusalOf, acceptedOf, judgedOf}
 
 module _ (lo hi : List Float) (tolerance : Float) (x : List Float) (claimed : Float) (o : Objective) (b : Bool) (e : b ≡ isRefused (o .end)) where
   pub judged-domain : (n : ℕ) (v : Vetted) → b ≡ true → n ≡ reasonOf (o .end) → v ≡ refusalOf (Domain n) (o .used .0) → v ≡ judgedOf lo hi tolerance x claimed o
@@ -32,7 +29,3 @@ module _ (lo hi : List Float) (tolerance : Float) (x : List Float) (claimed : Fl
       pub judged-above : (v : Vetted) → le m tolerance ≡ false → v ≡ refusalOf NormAbove (o .used .0) → v ≡ judgedOf lo hi tolerance x claimed o
       unfolding judgedOf
       judged-above v k u = rw (← e, t, ← f, g, ← h, k) u
-
-pub put-vetted-is : (a : Vetted) (l m v : List Float) (c d w : List ℕ) (r : ℕ) → v ≡ vettedNumbersOf a → w ≡ vettedCountsOf a → m ≡ stored l v → d ≡ stored c w → r ≡ numberOf (a .verdict) → given r m d ≡ putVettedOf a l c
-unfolding putVettedOf
-put-vetted-is a l m v c d w r e b p q h = rw (p, q, h, e, b)

@@ -23,7 +23,7 @@ use Rattle.course.specs.declared.Course.{Course}
 use Rattle.counts_fit.specs.declared.report.Fit.{Fit}
 use Rattle.counts_fit.specs.Fit.{lowOf, highOf, startOf, planeFor, naturalOf, onBoundOf, refusedOf, fitOf}
 use Rattle.counts_fit.specs.Among.{valueAtOf, runOf, reportedOf}
-use Rattle.counts_fit.specs.Whole.{within-enough, admitted-is, not-admitted-is}
+use Rattle.counts_fit.specs.Whole.{within-enough, admitted-is, unfit-refused}
 
 pub among-is : (cs : List ℕ) (es x : List Float) (o : Value) (v : Totals) → o ≡ evaluatedOf (getD x 1 nan) (getD x 3 nan) cs es → v ≡ widenedOf (o .v) → record { end = o .end; used = o .passes; v = v } ≡ valueAtOf cs es x
 unfolding valueAtOf
@@ -49,7 +49,7 @@ module _ (r : Request) (cs : List ℕ) (es : List Float) where
 
   module _ (t : Bool) (e : t ≡ admittedOf r cs es) where
     pub refuses : (f : Fit) → not t ≡ true → f ≡ refusedOf InvalidInput 0 → f ≡ fitOf r cs es
-    refuses f h u = u ∙ sym (not-admitted-is r cs es (sym e ∙ not-true t h))
+    refuses f h u = u ∙ sym (unfit-refused r cs es (sym e ∙ not-true t h))
 
     pub passed : not t ≡ false → admittedOf r cs es ≡ true
     passed h = sym e ∙ not-false t h

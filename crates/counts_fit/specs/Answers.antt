@@ -31,7 +31,7 @@ use Rattle.counts.specs.Refusals.{NotFinite, evaluate-stops}
 use Rattle.counts_fit.specs.declared.report.Fit.{Fit}
 use Rattle.counts_fit.specs.Fit.{Report, startOf, planeFor, valueAt, fit, toFit, noReport, refusedOf, fitOf}
 use Rattle.counts_fit.specs.Among.{enough}
-use Rattle.counts_fit.specs.Whole.{fit-most, within-product, within-enough, not-admitted-is}
+use Rattle.counts_fit.specs.Whole.{fit-most, within-product, within-enough, unfit-refused}
 
 -- a fit that is answered with a report that has P
 pub record Answers (P : Report → Type 0) (f : Fit) : Type 0 where
@@ -58,16 +58,12 @@ module _ (r : Request) (cs : List ℕ) (es : List Float) where
   unfolding fitOf
   refused-is h = told-refused toFit noReport (inFull (fit r cs es)) h
 
-  -- A request or rows that fail any check: InvalidInput, with count 0.
-  pub unfit-refused : admittedOf r cs es ≡ false → fitOf r cs es ≡ refusedOf InvalidInput 0
-  unfit-refused h = not-admitted-is r cs es h
-
   -- The passes, of an answer or a refusal, are at most the product that was checked.
   pub passes-within : fitOf r cs es .passes .0 ≤ productOf (eventsOf cs) (length cs) (r .evaluations .0)
   passes-within =
       split (admittedOf r cs es)
       (λ t. let b = at-most-listed logOf (fit-most r cs es (admitted-passed r cs es t .controls .some)) in unfold fitOf inFull in omega (arith, b, within-product r cs es))
-      (λ t. rw (not-admitted-is r cs es t) zero-le)
+      (λ t. rw (unfit-refused r cs es t) zero-le)
 
   module _ (t : admittedOf r cs es ≡ true) where
     stops-so : Stops NotFinite (fit r cs es)
@@ -85,7 +81,7 @@ module _ (r : Request) (cs : List ℕ) (es : List Float) where
     not-invalid h = metered-invalid logOf enough 0 stops-so (sym ending-is ∙ h)
 
   other-ending : (e : Ending) → admittedOf r cs es ≡ false → fitOf r cs es .end ≡ e → InvalidInput ≡ e
-  other-ending e t h = sym (ap (λ (f : Fit). f .end) (not-admitted-is r cs es t)) ∙ h
+  other-ending e t h = sym (ap (λ (f : Fit). f .end) (unfit-refused r cs es t)) ∙ h
 
   -- A Domain's reason is 6.
   pub domain-reason : (i : ℕ) → fitOf r cs es .end ≡ Domain i → i ≡ 6
@@ -93,7 +89,7 @@ module _ (r : Request) (cs : List ℕ) (es : List Float) where
 
   -- InvalidInput exactly if a check fails.
   pub invalid-exactly : (fitOf r cs es .end ≡ InvalidInput) ↔ (admittedOf r cs es ≡ false)
-  invalid-exactly = (λ h. split (admittedOf r cs es) (λ t. absurd (not-invalid t h)) (λ t. t), λ t. ap (λ (f : Fit). f .end) (not-admitted-is r cs es t))
+  invalid-exactly = (λ h. split (admittedOf r cs es) (λ t. absurd (not-invalid t h)) (λ t. t), λ t. ap (λ (f : Fit). f .end) (unfit-refused r cs es t))
 
   -- There is no work limit to meet.
   pub no-budget : fitOf r cs es .end ≡ WorkBudget → ⊥

@@ -31,7 +31,7 @@ use Rattle.plane.specs.Plane.{Spot, planeOf}
 use Rattle.counts_fit.specs.declared.report.Fit.{Fit}
 use Rattle.counts_fit.specs.Fit.{startOf, planeFor, valueAt, reportOf, toFit, noReport, fitOf}
 use Rattle.counts_fit.specs.Among.{enough}
-use Rattle.counts_fit.specs.Whole.{planar, fit-after, not-admitted-is}
+use Rattle.counts_fit.specs.Whole.{planar, fit-after, unfit-refused}
 
 -- the starting likelihood: the objective's, evaluated alone at the start
 abbrev pub startingOf : Request → List ℕ → List Float → Float
@@ -78,7 +78,7 @@ module _ (r : Request) (cs : List ℕ) (es : List Float) where
   ends k =
       split (admittedOf r cs es)
       (λ t. rw (← descent-is) (by-ending (fitOf r cs es) (metered logOf enough 0 (planar r cs es) .ended) (metered logOf enough 0 (planar r cs es) .used) (fit-after r cs es t) k))
-      (λ t. let z = sym (ap (λ (g : Fit). g .end) (not-admitted-is r cs es t)) ∙ k in impossible (cc))
+      (λ t. let z = sym (ap (λ (g : Fit). g .end) (unfit-refused r cs es t)) ∙ k in impossible (cc))
 
   -- a point at which the fit had its objective evaluated, and its value there
   abbrev pub Visited : Spot → Planar → Type 0

@@ -104,6 +104,7 @@ module _ (r : Request) (cs : List ℕ) (es : List Float) where
       by-ending (m .ended) (m .used) (driving .ended) (driving .used) (driving .asked) (λ d e. of-metered logOf (λ q. tt) enough 0 d good-report e) (ap (λ w. w .ended) c) (ap (λ w. w .used) c)
       ∙ sym (fit-after h)
 
-  pub not-admitted-is : admittedOf r cs es ≡ false → fitOf r cs es ≡ refusedOf InvalidInput 0
+  -- A request or rows that fail any check: InvalidInput, with count 0.
+  pub unfit-refused : admittedOf r cs es ≡ false → fitOf r cs es ≡ refusedOf InvalidInput 0
   unfolding fitOf fit inFull run listed
-  not-admitted-is h = rw h
+  unfit-refused h = rw h

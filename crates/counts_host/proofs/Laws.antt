@@ -9,22 +9,12 @@ use lib.ListN.{length}
 use lib.Ieee.{Float}
 use Rattle.num.specs.Both.{and-left, and-right}
 use Rattle.num.specs.Choose.{then, else, by-not-false, by-not-true}
-use Rattle.work.specs.Ended.{numberOf}
-use Rattle.store.specs.Stored.{stored}
 use Rattle.exposure.specs.declared.request.Request.{Request}
 use Rattle.counts.specs.declared.sum.Objective.{Objective}
 use Rattle.counts_fit.specs.declared.report.Fit.{Fit}
 use Rattle.counts_fit.specs.Fit.{fitOf}
-use Rattle.counts_host.specs.Host.{objectiveRoomOf, objectiveNumbersOf, objectiveCountsOf, putObjectiveOf, objectiveGiven, fitRoomOf, fitNumbersOf, fitCountsOf, putFitOf, fitGiven}
+use Rattle.counts_host.specs.Host.{objectiveRoomOf, putObjectiveOf, objectiveGiven, fitRoomOf, putFitOf, fitGiven}
 use Rattle.store.specs.Given.{Given, given}
-
-pub put-objective-is : (o : Objective) (l m v : List Float) (c d w : List ℕ) (r : ℕ) → v ≡ objectiveNumbersOf o → w ≡ objectiveCountsOf o → m ≡ stored l v → d ≡ stored c w → r ≡ numberOf (o .end) → given r m d ≡ putObjectiveOf o l c
-unfolding putObjectiveOf
-put-objective-is o l m v c d w r a b p q e = rw (p, q, e, a, b)
-
-pub put-fit-is : (f : Fit) (l m v : List Float) (c d w : List ℕ) (r : ℕ) → v ≡ fitNumbersOf f → w ≡ fitCountsOf f → m ≡ stored l v → d ≡ stored c w → r ≡ numberOf (f .end) → given r m d ≡ putFitOf f l c
-unfolding putFitOf
-put-fit-is f l m v c d w r a b p q e = rw (p, q, e, a, b)
 
 -- ---- a test of lengths that passed
 module _ (p q : ℕ) (t : Bool) (e : t ≡ objectiveRoomOf p q) (h : not t ≡ false) where

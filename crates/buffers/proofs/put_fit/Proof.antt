@@ -1,10 +1,12 @@
 -- `buffers::put_fit` meets its contract.
-use Rattle.buffers.proofs.Laws.{put-fit-is}
+use Rattle.store.specs.Given.{both-put}
+use Rattle.buffers.specs.Buffers.{putFitOf}
 use borrow.Author.Needs.{needs}
 use Rattle.buffers.proofs.put_fit.Statement.{statement}
 use Rattle.buffers.proofs.put_fit.Tie as tie
 
 pub put-fit-spec : {M : Type 1} → statement M
+unfolding putFitOf
 put-fit-spec =
     tie.close
     (tie.spec
@@ -15,4 +17,4 @@ put-fit-spec =
     (λ c κs. search needs)
     (λ c. search needs)
     (λ c. search needs)
-    (λ c. search put-fit-is))
+    (λ c. search both-put))

@@ -1,10 +1,12 @@
 -- `put_objective` meets its contract.
 use borrow.Author.Needs.{needs}
-use Rattle.counts_host.proofs.Laws.{put-objective-is}
+use Rattle.store.specs.Given.{both-put}
+use Rattle.counts_host.specs.Host.{putObjectiveOf}
 use Rattle.counts_host.proofs.put_objective.Statement.{statement}
 use Rattle.counts_host.proofs.put_objective.Tie as tie
 
 pub put-objective-spec : {M : Type 1} → statement M
+unfolding putObjectiveOf
 put-objective-spec =
     tie.close
     (tie.spec
@@ -17,4 +19,4 @@ put-objective-spec =
     (λ c κs. search needs)
     (λ c. search needs)
     (λ c. search needs)
-    (λ c. search put-objective-is))
+    (λ c. search both-put))
