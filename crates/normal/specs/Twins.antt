@@ -11,7 +11,7 @@ use Rattle.normal.specs.Normal.{normalCentre}
 abbrev pub sizeOf : Float → Float
 sizeOf x = cond (lt x zero·) (neg x) x
 
--- erfc across zero from x serves x too; the first two tests are never met
+-- erfc across zero from x serves x too: where x is below zero, and there the first two tests are never met
 unfoldable pub servesOf : Float → Bool
 servesOf x = cond (lt (neg x) (neg six·)) false (cond (lt (neg x) zero·) false (lt x zero·))
 

@@ -29,8 +29,8 @@ fn apart(x: f64) -> Erfcs
     }
 }
 
-// Whether erfc across zero from x serves x too: where x is below zero. The tests of -x are never met; they spare a
-// proof of what it is.
+// Whether erfc across zero from x serves x too: where x is below zero. There the tests of -x are never met; they spare
+// a proof of what it is.
 fn serves(x: f64) -> bool
     ensures { λ r. ⌜ r ≡ servesOf x ⌝ }
 {
