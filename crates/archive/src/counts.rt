@@ -6,7 +6,7 @@ ghost use Rattle.archive.specs.Counts.{none as none_of, both_of, one_of, litter_
 
 use summary::GroupCounts;
 
-#[derive(Drop)]
+#[derive(Clone, Copy)]
 pub struct Counts {
     pub first: GroupCounts,
     pub second: GroupCounts,

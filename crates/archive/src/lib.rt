@@ -1,11 +1,13 @@
 // An archive of litters as it lies in bytes: its words, its size, its shape.
+#![tactic(auto)]
+
 pub mod counts;
 
 ghost use Rattle.std.specs.Prelude.{◌≡◌, ◌+◌, ◌-◌, ◌*◌, ◌≤◌, ◌<◌, length};
 ghost use Rattle.archive.specs.Layout.{number_of, word_at, valid_of, size_of, trailer_holds_of, shaped_of};
 
 // How an answer about an archive ends. Form carries its line, which is 0 for an archive.
-#[derive(Drop)]
+#[derive(Clone, Copy)]
 pub enum Outcome {
     Answered,
     InvalidInput,

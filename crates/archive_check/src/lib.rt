@@ -1,4 +1,6 @@
 // The full check of an archive: its shape, each litter, and each of the totals beside the litters counted.
+#![tactic(auto)]
+
 ghost use Rattle.std.specs.Prelude.{◌≡◌, ◌≤◌};
 ghost use Rattle.archive.specs.Layout.{count_in};
 ghost use Rattle.archive.specs.Shaped.{Shaped};

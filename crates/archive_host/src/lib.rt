@@ -1,4 +1,6 @@
 // The calls on an archive as a host makes them: numbers for outcomes, and counts put into a lent buffer.
+#![tactic(auto)]
+
 ghost use Rattle.std.specs.Prelude.{◌≡◌, ◌≤◌, length};
 ghost use Rattle.archive_host.specs.Host.{given, put_range_of, range_given, write_given, check_given, size_given};
 

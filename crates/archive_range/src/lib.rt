@@ -1,4 +1,6 @@
 // The summary over a range of an archive: the difference of two running summaries, each read from at most one of the totals and 63 litters.
+#![tactic(auto)]
+
 pub mod difference;
 pub mod running;
 
@@ -11,7 +13,7 @@ ghost use Rattle.archive_range.specs.Range.{refused_of, difference_of, judged_of
 use archive::Outcome;
 use archive::counts::Counts;
 
-#[derive(Drop)]
+#[derive(Clone, Copy)]
 pub struct Range {
     pub end: Outcome,
     pub counts: Counts,

@@ -1,4 +1,6 @@
 // The writer of archives: litters in, three numbers each, and an archive's bytes out.
+#![tactic(auto)]
+
 pub mod bytes;
 
 ghost use Rattle.std.specs.Prelude.{◌≡◌, ◌+◌, ◌*◌, ◌/◌, ◌≤◌, ◌<◌, length};

@@ -1,4 +1,6 @@
 // What an answer puts into the buffers that a host lends: numbers, then counts.
+#![tactic(auto)]
+
 ghost use Rattle.std.specs.Prelude.{◌≡◌, [], ◌≤◌, length};
 ghost use Rattle.store.specs.Stored.{stored};
 ghost use Rattle.buffers.specs.Buffers.{fit_room_of, first_numbers_of, all_numbers_of, fit_numbers_of, fit_counts_of, put_fit_of, objective_room_of, objective_numbers_of, objective_counts_of, put_objective_of, put_summary_of};

@@ -1,4 +1,6 @@
 // What another tool claims of a fit, and what the objective at the claimed point decides of it.
+#![tactic(auto)]
+
 ghost use Rattle.std.specs.Prelude.{◌≡◌};
 ghost use Rattle.trial.specs.Judged.{norm_at_of};
 ghost use Rattle.claim.specs.Claim.{number_of, reason_of, point_in, within_of, in_box_of, same_bits_of, refusal_of, judged_of};
@@ -8,7 +10,7 @@ use work::QuadratureEvaluations;
 
 pub mod give;
 
-#[derive(Drop)]
+#[derive(Clone, Copy)]
 pub struct Claim {
     pub means: [f64; 2],
     pub variances: [f64; 2],
@@ -16,7 +18,7 @@ pub struct Claim {
 }
 
 // How a claim was judged. A `Domain` carries the objective's reason.
-#[derive(Drop)]
+#[derive(Clone, Copy)]
 pub enum Verdict {
     Accepted,
     InvalidInput,
@@ -27,7 +29,7 @@ pub enum Verdict {
 }
 
 // The objective's evaluations, likelihood and norm; zeros beside a refusal, but for the evaluations.
-#[derive(Drop)]
+#[derive(Clone, Copy)]
 pub struct Vetted {
     pub verdict: Verdict,
     pub used: QuadratureEvaluations,

@@ -1,4 +1,6 @@
 // A request's text with a claim behind it, read: the request's values and litters as `read` has them, and the claim's five numbers.
+#![tactic(auto)]
+
 ghost use Rattle.std.specs.Prelude.{◌≡◌, ◌&&◌, ◌+◌, ◌≤◌, eqb, length, drop};
 ghost use Rattle.template.specs.Read.{read as Template·read};
 ghost use Rattle.claimed.specs.Claimed.{claim as Claimed·claim, claim_at_of, read_claimed};
@@ -7,7 +9,7 @@ ghost use Rattle.claimed.specs.Claiming.{behind_of, departed_of, joined_of, clai
 use read::Asking;
 
 // `count`, `values` and `claim` are what the text says where it has the form; else `line` is the line at which it departs, beside zeros.
-#[derive(Drop)]
+#[derive(Clone, Copy)]
 pub struct Claiming {
     pub fits: bool,
     pub line: u64,
@@ -17,7 +19,7 @@ pub struct Claiming {
 }
 
 // The claim's lines alone.
-#[derive(Drop)]
+#[derive(Clone, Copy)]
 pub struct Lines {
     pub fits: bool,
     pub line: u64,

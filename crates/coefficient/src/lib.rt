@@ -1,4 +1,6 @@
 // The logarithm of the binomial coefficient: how many ways there are to choose the affected pups of a litter.
+#![tactic(auto)]
+
 ghost use Rattle.std.specs.Prelude.{◌≡◌, ◌⊎◌, ◌-◌, ◌≤◌};
 ghost use Rattle.num.specs.F64.{zero·};
 ghost use Rattle.coefficient.specs.Coefficient.{coefficient_of};

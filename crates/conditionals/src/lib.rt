@@ -1,4 +1,6 @@
 // A litter's conditional likelihood at sixteen places, each stage for all of them.
+#![tactic(auto)]
+
 mod normals;
 mod tails;
 
@@ -8,7 +10,7 @@ ghost use Rattle.conditionals.specs.Conditionals.{share_of, shares_of, condition
 use crate::normals::Ratios;
 
 // Of each place the logarithm and four of the moments; the first moment is 1 and the third half the fourth.
-#[derive(Drop)]
+#[derive(Clone, Copy)]
 pub struct Moments {
     pub log: [f64; 16],
     pub first: [f64; 16],

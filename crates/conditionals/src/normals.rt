@@ -5,14 +5,14 @@ ghost use Rattle.conditionals.specs.Normals.{across_of, turned_of, sizes_of, hal
 
 const SQRT_2: f64 = 1.4142135623730951;
 
-#[derive(Drop)]
+#[derive(Clone, Copy)]
 pub struct Ratios {
     pub log: [f64; 16],
     pub mills: [f64; 16],
 }
 
 // The distribution at sixteen places, and across zero from each.
-#[derive(Drop)]
+#[derive(Clone, Copy)]
 pub struct Pairs {
     pub at: [f64; 16],
     pub across: [f64; 16],

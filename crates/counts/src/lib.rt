@@ -1,4 +1,6 @@
 // Counts per exposure: the Gamma-Poisson likelihood and its derivatives in the logarithms of shape and rate.
+#![tactic(auto)]
+
 pub mod rungs;
 pub mod share;
 pub mod sum;

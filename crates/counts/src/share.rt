@@ -6,7 +6,7 @@ ghost use Rattle.counts.specs.Rungs.{Held};
 use planar::Planar;
 
 // Over the terms shape + k, for the k below a row's count: the sums of the logarithms, the reciprocals and their squares.
-#[derive(Drop)]
+#[derive(Clone, Copy)]
 pub struct Rising {
     pub log: f64,
     pub inverse: f64,
@@ -14,7 +14,7 @@ pub struct Rising {
 }
 
 // The parts p and q of a row, and the negatives of their logarithms: p goes with `logq`, q with `logp`, as in the source.
-#[derive(Drop)]
+#[derive(Clone, Copy)]
 pub struct Odds {
     pub logq: f64,
     pub logp: f64,

@@ -9,10 +9,10 @@ use planar::Planar;
 use work::Ending;
 
 // The passes of the definition's inner loop, one for each event, however few of them `rungs` makes.
-#[derive(Drop)]
+#[derive(Clone, Copy)]
 pub struct Passes(pub u64);
 
-#[derive(Drop)]
+#[derive(Clone, Copy)]
 pub struct Value {
     pub end: Ending,
     pub passes: u64,
@@ -20,7 +20,7 @@ pub struct Value {
 }
 
 // The coordinates are the logarithms of shape and rate. The Hessian stands by rows.
-#[derive(Drop)]
+#[derive(Clone, Copy)]
 pub struct Objective {
     pub end: Ending,
     pub passes: Passes,

@@ -8,7 +8,7 @@ use stepper::Plan;
 use value::Totals;
 use work::Ending;
 
-#[derive(Drop)]
+#[derive(Clone, Copy)]
 pub struct Value {
     pub end: Ending,
     pub used: u64,

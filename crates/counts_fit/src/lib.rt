@@ -1,4 +1,6 @@
 // The fit of counts per exposure: the descent of a request in the logarithms of shape and rate, and its report.
+#![tactic(auto)]
+
 pub mod drive;
 pub mod report;
 

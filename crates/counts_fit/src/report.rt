@@ -15,7 +15,7 @@ use stepper::Plan;
 use work::{Ending, FitEvaluations, Iterations};
 
 // `active` marks shape and rate where their logarithm lies on that of a bound.
-#[derive(Drop)]
+#[derive(Clone, Copy)]
 pub struct Fit {
     pub end: Ending,
     pub status: Status,

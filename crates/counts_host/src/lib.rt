@@ -1,4 +1,6 @@
 // The calls on counts per exposure as a host makes them: numbers for endings, and answers put into lent buffers.
+#![tactic(auto)]
+
 ghost use Rattle.std.specs.Prelude.{◌≡◌, ◌≤◌, length};
 ghost use Rattle.counts.specs.Objective.{objective_of};
 ghost use Rattle.counts_fit.specs.Fit.{fit_of};

@@ -1,4 +1,6 @@
 // Where a descent that was driven to its end stopped, or its refusal.
+#![tactic(auto)]
+
 ghost use Rattle.std.specs.Prelude.{◌≡◌};
 ghost use Rattle.course.specs.Course.{refusal_of, stopped_of};
 
@@ -9,7 +11,7 @@ use value::Totals;
 use work::{Ending, FitEvaluations, Iterations};
 
 // `used` counts what the objective counts. `trial` says that a trial was refused, and not the start; the watch counts the trials before it.
-#[derive(Drop)]
+#[derive(Clone, Copy)]
 pub struct Course {
     pub end: Ending,
     pub used: u64,

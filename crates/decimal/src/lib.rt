@@ -1,4 +1,6 @@
 // The f64 nearest a decimal, by a long division, one binary digit a step.
+#![tactic(auto)]
+
 ghost use Rattle.std.specs.Prelude.{◌≡◌, ◌*◌, ◌^◌, ◌≤◌, ◌<◌};
 ghost use Rattle.std.specs.Float.{binary64};
 ghost use Rattle.std.specs.Float.Ieee.{round};
@@ -6,7 +8,7 @@ ghost use Rattle.decimal.specs.Nearest.{Nearest, Decimal};
 ghost use Rattle.decimal.specs.Steps.{Divided, rounded_of};
 
 // num · 2^places divided by the denominator.
-#[derive(Drop)]
+#[derive(Clone, Copy)]
 pub struct Quotient {
     pub digits: u64,
     pub rest: u64,

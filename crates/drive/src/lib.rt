@@ -1,4 +1,6 @@
 // The descent of the probit-normal objective: ask the stepper for a point, evaluate there, tell it the value.
+#![tactic(auto)]
+
 ghost use Rattle.std.specs.Prelude.{◌≡◌};
 ghost use Rattle.drive.specs.Drive.{run_of};
 
@@ -8,7 +10,7 @@ use stepper::Plan;
 use work::QuadratureEvaluations;
 
 // A descent that was driven to its end, and the litter at which it was refused, counted from 1: 0 where none was.
-#[derive(Drop)]
+#[derive(Clone, Copy)]
 pub struct Outcome {
     pub course: Course,
     pub litter: u64,

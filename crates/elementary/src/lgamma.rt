@@ -68,7 +68,7 @@ const LGAM_S20: f64 = 1.1243309734941206e-05;
 const LGAM_S21: f64 = -7.909875730557344e-06;
 
 // p is (x - 1) (x - 2) .. down to a last factor above 1, and y what is left then.
-#[derive(Drop)]
+#[derive(Clone, Copy)]
 pub struct Factors {
     pub p: f64,
     pub y: f64,

@@ -1,4 +1,6 @@
 // The elementary functions: each a fixed list of f64 steps, equal to its definition for every f64.
+#![tactic(auto)]
+
 pub mod cos;
 pub mod erfc;
 pub mod exp;

@@ -34,7 +34,7 @@ const P46: u64 = 0x4000_0000_0000;
 
 const P52: u64 = 0x10_0000_0000_0000;
 
-#[derive(Drop)]
+#[derive(Clone, Copy)]
 pub struct LogParts {
     pub hi: f64,
     pub lo: f64,

@@ -1,4 +1,6 @@
 // Why a fit took its steps, in words: a line for a trial, and a line for what stopped the fit. The same as counts, for hosts.
+#![tactic(auto)]
+
 ghost use Rattle.std.specs.Prelude.{◌≡◌, ◌≤◌, length};
 ghost use Rattle.render.specs.Written.{written};
 ghost use Rattle.explain.specs.Lines.{line, number_in, made_text, refused_text, trial_text, test_text, stopped_text, ending_text};

@@ -7,14 +7,14 @@ use crate::rows::{events, is_positive, valid_rows};
 use work::{FitEvaluations, Iterations};
 
 // A parameter's bounds and start.
-#[derive(Drop)]
+#[derive(Clone, Copy)]
 pub struct Bounds {
     pub low: f64,
     pub high: f64,
     pub start: f64,
 }
 
-#[derive(Drop)]
+#[derive(Clone, Copy)]
 pub struct Request {
     pub shape: Bounds,
     pub rate: Bounds,

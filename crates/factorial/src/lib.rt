@@ -1,4 +1,6 @@
 // The logarithm of a factorial.
+#![tactic(auto)]
+
 ghost use Rattle.std.specs.Prelude.{◌≡◌};
 ghost use Rattle.factorial.specs.Factorial.{log_factorial_of};
 

@@ -1,4 +1,6 @@
 // Whether every number of a lent run is finite.
+#![tactic(auto)]
+
 ghost use Rattle.std.specs.Prelude.{◌≡◌};
 ghost use Rattle.finite.specs.Finite.{all_finite_of};
 

@@ -10,7 +10,7 @@ use why::{Stop, Test, Why};
 use work::{Ending, FitEvaluations, Iterations, QuadratureEvaluations};
 
 // The coordinates are two means, then two variances: gradient, Hessian (by rows) and `active`, which marks those that lie on a bound, go by them.
-#[derive(Drop)]
+#[derive(Clone, Copy)]
 pub struct Fit {
     pub end: Ending,
     pub status: Status,
@@ -29,7 +29,7 @@ pub struct Fit {
 }
 
 // The fit, why the trial that was watched ended as it did, and what stopped the descent.
-#[derive(Drop)]
+#[derive(Clone, Copy)]
 pub struct Seen {
     pub fit: Fit,
     pub why: Why,

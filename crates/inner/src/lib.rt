@@ -1,5 +1,7 @@
 // The inner functions for comparisons from outside: numbers in, results into buffers that the caller lends.
 // The status is 1 where a buffer is too short, and then nothing is written; else 0.
+#![tactic(auto)]
+
 ghost use Rattle.std.specs.Prelude.{◌≡◌, ◌<◌, ◌≤◌, length};
 ghost use Rattle.tail.specs.Tail.{tail_bound_of};
 

@@ -1,10 +1,12 @@
 // Standard input read to its end into a lent buffer, or until the buffer is full.
+#![tactic(auto)]
+
 ghost use Rattle.std.specs.Prelude.{◌≤◌};
 
 use libc::STDIN_FILENO;
 
 // How far a text has been read: as far as this place, to its end, or not at all.
-#[derive(Drop)]
+#[derive(Clone, Copy)]
 pub enum Read {
     To(usize),
     End,

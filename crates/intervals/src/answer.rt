@@ -5,7 +5,7 @@ ghost use Rattle.intervals.specs.Intervals.{refusal_of, placed_of, collected_of,
 use crate::interval::Interval;
 
 // Three numbers an estimate: error in the log coordinate, lower, upper; zeros where it is not marked.
-#[derive(Drop)]
+#[derive(Clone, Copy)]
 pub struct Intervals {
     pub end: u64,
     pub numbers: [f64; 24],

@@ -2,7 +2,7 @@
 ghost use Rattle.std.specs.Prelude.{◌≡◌, ◌*◌, ◌<◌, ◌≤◌, length};
 ghost use Rattle.intervals.specs.Factor.{at, apart_of, disagrees_of, asymmetric_of, products_of, kept_of, diagonal_of, entry_of, row_of, line_of, factored_of};
 
-#[derive(Drop)]
+#[derive(Clone, Copy)]
 pub struct Factor {
     pub holds: bool,
     pub lower: [f64; 64],

@@ -4,7 +4,7 @@ ghost use Rattle.intervals.specs.Interval.{none_of, proper_of, judged_of, log_in
 
 const Z95: f64 = 1.959963984540054;
 
-#[derive(Drop)]
+#[derive(Clone, Copy)]
 pub struct Interval {
     pub end: u64,
     pub error: f64,

@@ -1,4 +1,6 @@
 // The 95 percent log-Wald intervals of estimates that are positive by their nature, from covariance and standard errors.
+#![tactic(auto)]
+
 pub mod answer;
 pub mod factor;
 pub mod interval;

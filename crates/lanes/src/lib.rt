@@ -1,4 +1,6 @@
 // A function at sixteen numbers. Each part of its steps is taken at all sixteen before the next: no answer differs from one number after another.
+#![tactic(auto)]
+
 mod erfc;
 mod exp;
 mod log;

@@ -17,7 +17,7 @@ pub fn places(x: [f64; 16]) -> [u64; 16]
 }
 
 // The rows of sixteen numbers, each field by itself: two numbers of a field are then one load.
-#[derive(Drop)]
+#[derive(Clone, Copy)]
 pub struct LogRows {
     pub centre: [f64; 16],
     pub inverse: [f64; 16],

@@ -1,25 +1,27 @@
 // The Gauss-Legendre rule of sixteen nodes, from its polynomial's recurrence.
+#![tactic(auto)]
+
 ghost use Rattle.std.specs.Prelude.{◌≡◌};
 ghost use Rattle.legendre.specs.Legendre.{recurrence_of, newton_of, node_and_weight_of, legendre_of};
 
 const PI: f64 = 3.141592653589793;
 
 // A node and its weight.
-#[derive(Drop)]
+#[derive(Clone, Copy)]
 pub struct Pair {
     pub x: f64,
     pub w: f64,
 }
 
 // The polynomial of degree 16 at x, and the one before it.
-#[derive(Drop)]
+#[derive(Clone, Copy)]
 pub struct Polynomial {
     pub p0: f64,
     pub p1: f64,
 }
 
 // A node as Newton's steps leave it, with the derivative found before the last of them.
-#[derive(Drop)]
+#[derive(Clone, Copy)]
 pub struct Node {
     pub x: f64,
     pub derivative: f64,

@@ -6,7 +6,7 @@ ghost use Rattle.litters.specs.Table.{no_rows, set_row_of, with_rows, numbers_fo
 use crate::Litter;
 
 // The numbers of 128 litters, three a litter.
-#[derive(Drop)]
+#[derive(Clone, Copy)]
 pub struct Table {
     pub numbers: [u32; 384],
 }

@@ -1,4 +1,6 @@
 // The posterior's mode: Newton's steps kept inside the bracket, at most a hundred, then one evaluation that has to confirm it.
+#![tactic(auto)]
+
 pub mod bracket;
 
 ghost use Rattle.std.specs.Prelude.{◌≡◌};
@@ -9,14 +11,14 @@ use posterior::number::Number;
 use work::Ending;
 
 // A bracket and a guess inside it.
-#[derive(Drop)]
+#[derive(Clone, Copy)]
 pub struct Guess {
     pub lo: f64,
     pub hi: f64,
     pub at: f64,
 }
 
-#[derive(Drop)]
+#[derive(Clone, Copy)]
 pub struct Mode {
     pub end: Ending,
     pub p: Posterior,

@@ -1,4 +1,6 @@
 // A panel's sixteen nodes, each stage for all of them, then the sixteen additions in order.
+#![tactic(auto)]
+
 pub mod stages;
 pub mod sum;
 

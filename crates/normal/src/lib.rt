@@ -1,4 +1,6 @@
 // The normal distribution's logarithm and tail ratio, and a litter's conditional likelihood with its derivatives.
+#![tactic(auto)]
+
 pub mod mills;
 pub mod moments;
 pub mod twins;

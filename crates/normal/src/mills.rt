@@ -6,7 +6,7 @@ const LOG_TWO_PI: f64 = 1.8378770664093453;
 
 const SQRT_2: f64 = 1.4142135623730951;
 
-#[derive(Drop)]
+#[derive(Clone, Copy)]
 pub struct LogMills {
     pub log: f64,
     pub mills: f64,

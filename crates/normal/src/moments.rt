@@ -3,7 +3,7 @@ ghost use Rattle.std.specs.Prelude.{◌≡◌, ◌-◌};
 ghost use Rattle.num.specs.Helpers.{powi_of};
 ghost use Rattle.normal.specs.Conditional.{mills_derivatives_of, combined_of, conditional_of};
 
-#[derive(Drop)]
+#[derive(Clone, Copy)]
 pub struct ConditionalLog {
     pub log: f64,
     pub score: f64,

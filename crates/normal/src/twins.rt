@@ -9,14 +9,14 @@ use crate::mills::LogMills;
 
 const SQRT_2: f64 = 1.4142135623730951;
 
-#[derive(Drop)]
+#[derive(Clone, Copy)]
 pub struct Twins {
     pub low: LogMills,
     pub high: LogMills,
 }
 
 // erfc at a number, and at the number across zero.
-#[derive(Drop)]
+#[derive(Clone, Copy)]
 pub struct Erfcs {
     pub at: f64,
     pub across: f64,

@@ -1,4 +1,6 @@
 // Helpers on f64 that Rust has as methods. Each contract is a definition that a caller rewrites by.
+#![tactic(auto)]
+
 ghost use Rattle.std.specs.Prelude.{◌≡◌, ◌&&◌, ◌||◌, cond, [], ◌∷◌};
 ghost use Rattle.std.specs.Float.{nan};
 ghost use Rattle.num.specs.F64.{infinity·};

@@ -1,4 +1,6 @@
 // The objective at a point: the litters' shares, each under what is left of the limit, summed in their order.
+#![tactic(auto)]
+
 pub mod check;
 pub mod sum;
 pub mod totals;

@@ -9,7 +9,7 @@ use value::Totals;
 use work::{Ending, QuadratureEvaluations};
 
 // The coordinates are two means, then two variances.
-#[derive(Drop)]
+#[derive(Clone, Copy)]
 pub struct Objective {
     pub end: Ending,
     pub used: QuadratureEvaluations,
@@ -17,7 +17,7 @@ pub struct Objective {
 }
 
 // An objective, and the litter at which it was refused, counted from 1: 0 where none was.
-#[derive(Drop)]
+#[derive(Clone, Copy)]
 pub struct Named {
     pub objective: Objective,
     pub litter: u64,

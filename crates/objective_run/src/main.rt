@@ -1,5 +1,7 @@
 // Runs the objective and the functions below it on inputs at the edge of each rule, one line a case: its name, the ending's number, the reason, the evaluations.
 // A Domain that no valid request reaches is reached from inside, by numbers that a request cannot hold.
+#![tactic(auto)]
+
 mod edges;
 mod reasons;
 mod refusals;

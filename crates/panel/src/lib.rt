@@ -1,4 +1,6 @@
 // One rule's sums: sixteen nodes a panel, the panels of a side in order, the left side of the mode first.
+#![tactic(auto)]
+
 ghost use Rattle.std.specs.Prelude.{◌≡◌, ◌-◌, leb};
 ghost use Rattle.panel.specs.Panel.{no_sums, nothing_of, panel_of, side_of, sides_of};
 
@@ -7,7 +9,7 @@ use posterior::integrand::Posterior;
 use work::{Ending, QuadratureEvaluations};
 
 // The interval of the integral, with the mode in it and the logarithm there.
-#[derive(Drop)]
+#[derive(Clone, Copy)]
 pub struct Hump {
     pub left: f64,
     pub mode: f64,
@@ -15,7 +17,7 @@ pub struct Hump {
     pub log: f64,
 }
 
-#[derive(Drop)]
+#[derive(Clone, Copy)]
 pub struct Sums {
     pub end: Ending,
     pub p: Posterior,

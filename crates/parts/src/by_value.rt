@@ -7,7 +7,7 @@ ghost use Rattle.parts.specs.ByValue.{fresh_of, part_of, finished_of};
 use read::Asking;
 
 // The first n bytes are kept.
-#[derive(Drop)]
+#[derive(Clone, Copy)]
 pub struct Reader {
     pub bytes: [u8; 8193],
     pub n: usize,
@@ -15,13 +15,13 @@ pub struct Reader {
 }
 
 // `refused`: Form with line 0 for this call.
-#[derive(Drop)]
+#[derive(Clone, Copy)]
 pub struct Taken {
     pub reader: Reader,
     pub refused: bool,
 }
 
-#[derive(Drop)]
+#[derive(Clone, Copy)]
 pub struct Finished {
     pub reader: Reader,
     pub asking: Asking,

@@ -1,11 +1,13 @@
 // A value in two coordinates, and the same among four, of which the first and the third are held at zero.
+#![tactic(auto)]
+
 ghost use Rattle.std.specs.Prelude.{◌≡◌};
 ghost use Rattle.planar.specs.Planar.{no_planar, among_four_of, widened_of};
 
 use value::Totals;
 
 // The negative log-likelihood, its gradient, and its Hessian, which is the same either way across.
-#[derive(Drop)]
+#[derive(Clone, Copy)]
 pub struct Planar {
     pub nll: f64,
     pub x: f64,

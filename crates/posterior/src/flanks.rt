@@ -5,7 +5,7 @@ ghost use Rattle.posterior.specs.Flanks.{nothing_of};
 use crate::integrand::Posterior;
 use work::Ending;
 
-#[derive(Drop)]
+#[derive(Clone, Copy)]
 pub struct Flanks {
     pub end: Ending,
     pub p: Posterior,

@@ -7,7 +7,7 @@ use work::{Ending, QuadratureEvaluations};
 const LOG_TWO_PI: f64 = 1.8378770664093453;
 
 // A litter, by its position and its numbers; the mean and spread it is taken at; the evaluations made and the most that may be made.
-#[derive(Drop)]
+#[derive(Clone, Copy)]
 pub struct Posterior {
     pub litter: u64,
     pub successes: u32,
@@ -19,7 +19,7 @@ pub struct Posterior {
 }
 
 // The logarithm of the integrand, its slope and its curvature (the second derivative with its sign turned), and the moments.
-#[derive(Drop)]
+#[derive(Clone, Copy)]
 pub struct Point {
     pub log: f64,
     pub slope: f64,
@@ -27,7 +27,7 @@ pub struct Point {
     pub moments: [f64; 6],
 }
 
-#[derive(Drop)]
+#[derive(Clone, Copy)]
 pub struct At {
     pub end: Ending,
     pub p: Posterior,

@@ -6,7 +6,7 @@ ghost use Rattle.posterior.specs.Lent.{evaluated_of};
 use crate::integrand::{At, Point, Posterior};
 use work::Ending;
 
-#[derive(Drop)]
+#[derive(Clone, Copy)]
 pub struct Evaluated {
     pub end: Ending,
     pub v: Point,

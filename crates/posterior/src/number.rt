@@ -5,7 +5,7 @@ ghost use Rattle.posterior.specs.Number.{nothing_of};
 use crate::integrand::Posterior;
 use work::Ending;
 
-#[derive(Drop)]
+#[derive(Clone, Copy)]
 pub struct Number {
     pub end: Ending,
     pub p: Posterior,

@@ -1,4 +1,6 @@
 // An answer's text, written into a lent buffer with room for every answer.
+#![tactic(auto)]
+
 ghost use Rattle.std.specs.Prelude.{◌≡◌, ◌||◌, ◌+◌, ◌≤◌, length};
 ghost use Rattle.num.specs.F64.{bits_of};
 ghost use Rattle.render.specs.Written.{written};

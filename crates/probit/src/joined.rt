@@ -8,7 +8,7 @@ ghost use Rattle.probit.specs.Joined.{answer_room_of};
 
 use parts::Reader;
 
-#[derive(Drop)]
+#[derive(Clone, Copy)]
 pub struct Answered {
     pub reader: Reader,
     pub length: usize,

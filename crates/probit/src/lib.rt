@@ -1,5 +1,7 @@
 // The interface for hosts: numbers and slices in, answers into buffers that the host lends; for hosts in Rattle, litters as
 // lent records, and a request that arrives in parts.
+#![tactic(auto)]
+
 pub mod interface;
 pub mod joined;
 

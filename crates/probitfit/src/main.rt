@@ -1,5 +1,7 @@
 // Reads one request from standard input until it ends, and writes its answer to standard output.
 // Where standard input cannot be read nothing is answered; that, and an answer that is not written whole, is said on standard error.
+#![tactic(auto)]
+
 use input::Read;
 use libc::{STDERR_FILENO, STDOUT_FILENO};
 

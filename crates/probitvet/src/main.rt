@@ -1,5 +1,7 @@
 // Reads a request with a claim behind it from standard input until it ends, and writes the verdict to standard output.
 // Where standard input cannot be read nothing is answered; that, and a verdict that is not written whole, is said on standard error.
+#![tactic(auto)]
+
 use input::Read;
 use libc::{STDERR_FILENO, STDOUT_FILENO};
 

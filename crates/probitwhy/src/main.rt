@@ -1,5 +1,7 @@
 // Says why a fit took its steps. Reads one request from standard input until it ends; its argument is a trial's number. Writes the line of that trial, or without an argument the
 // line of each, a line of what stopped the fit, and the answer as probitfit writes it.
+#![tactic(auto)]
+
 use fit::report::Seen;
 use input::Read;
 use libc::{STDERR_FILENO, STDOUT_FILENO};
@@ -8,7 +10,7 @@ use template::token::Token;
 use why::Why;
 
 // The trial that is asked for, each of them, or an argument that is no number.
-#[derive(Drop)]
+#[derive(Clone, Copy)]
 enum Asked {
     One(u64),
     Each,

@@ -1,4 +1,6 @@
 // The integral and its derivatives' moments: one rule after another, the panels doubled until two rules agree.
+#![tactic(auto)]
+
 ghost use Rattle.std.specs.Prelude.{◌≡◌};
 ghost use Rattle.quadrature.specs.Quadrature.{nothing_of, finite_rest_of, sound_of, spoiled_of, larger_of, refined_of, integrated_of};
 
@@ -7,7 +9,7 @@ use panel::Hump;
 use posterior::integrand::Posterior;
 use work::Ending;
 
-#[derive(Drop)]
+#[derive(Clone, Copy)]
 pub struct Integral {
     pub end: Ending,
     pub p: Posterior,

@@ -1,4 +1,6 @@
 // A request's text read: the head's values, and the litters into a lent buffer.
+#![tactic(auto)]
+
 ghost use Rattle.std.specs.Prelude.{◌≡◌, List, ℕ, ◌+◌, ◌^◌, ◌≤◌, ◌<◌, length, get_or, drop};
 ghost use Rattle.template.specs.Read.{read as Template·read};
 ghost use Rattle.read.specs.Request.{read_last, read_rows, read_request};
@@ -6,14 +8,14 @@ ghost use Rattle.read.specs.Request.{closing};
 ghost use Rattle.read.specs.Rows.{put_litter, fill_rows, fill_request, asking_of, rows_say, departed_of};
 
 // The number of litters, or the line at which the text departs.
-#[derive(Drop)]
+#[derive(Clone, Copy)]
 pub enum Lines {
     Litters(u64),
     Departs(u64),
 }
 
 // `values` and `count` are the request's where the text has the form; else `line` is the line at which it departs, beside zeros.
-#[derive(Drop)]
+#[derive(Clone, Copy)]
 pub struct Asking {
     pub fits: bool,
     pub line: u64,

@@ -1,5 +1,7 @@
 // The fit, the objective and the summary of a lent run of litter records: each litter's three numbers go into a table, and the table's numbers to the core.
 // The borrow checker does not cover a slice of structs, so the functions over one are walked by hand: all three by the schema of crates/litters/proofs/Handed.antt.
+#![tactic(auto)]
+
 ghost use Rattle.std.specs.Prelude.{◌≡◌};
 ghost use Rattle.objective.specs.Objective.{objective_of};
 ghost use Rattle.summary.specs.Summary.{summary_of};

@@ -1,5 +1,7 @@
 // Runs the lent forms on a few inputs, one line a case: its name, the ending's number, the reason, the evaluations; for a summary, its eight counts.
 // Of a slice a fit shows its means, SDs and likelihood too, an objective its likelihood, by their bits, and a summary the ending's number first.
+#![tactic(auto)]
+
 ghost use Rattle.std.specs.Prelude.{◌≤◌};
 
 use fit::{Bounds, Fit, Request};
@@ -104,7 +106,7 @@ fn litters() -> [Litter; 129] {
     r
 }
 
-#[derive(Drop)]
+#[derive(Clone, Copy)]
 struct Answers {
     fit: Fit,
     objective: Objective,

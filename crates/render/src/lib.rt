@@ -1,4 +1,6 @@
 // A template written into a lent buffer: a count in decimal, an f64's bits in hexadecimal, any other byte as it is.
+#![tactic(auto)]
+
 ghost use Rattle.std.specs.Prelude.{◌≡◌, ◌∷◌, [], ◌+◌, ◌/◌, ◌%◌, ◌^◌, ◌≤◌, ◌<◌, length, get_or};
 ghost use Rattle.template.specs.Digits.{glyph as Digits·glyph, digits as Digits·digits, places as Digits·places};
 ghost use Rattle.template.specs.Template.{piece as Template·piece, render};

@@ -1,16 +1,18 @@
 // Runs each request of the stored list and holds the answer against the stored one, which the Rust module gave (oracle/list makes the list).
 // A record is a line `request N` and N bytes, then a line `answer M` and M bytes. Writes a line for each that differs, then how many ran.
+#![tactic(auto)]
+
 use libc::{STDIN_FILENO, STDOUT_FILENO};
 
 // The bytes that a record's line announces, from one place to another.
-#[derive(Drop)]
+#[derive(Clone, Copy)]
 enum Part {
     Bytes(usize, usize),
     Missing,
 }
 
 // What came of a record, and where the next one starts.
-#[derive(Drop)]
+#[derive(Clone, Copy)]
 enum Outcome {
     Same(usize),
     Differs(usize),

@@ -1,11 +1,13 @@
 // A fit's request, and what it has to satisfy.
+#![tactic(auto)]
+
 ghost use Rattle.std.specs.Prelude.{◌≡◌, length};
 ghost use Rattle.request.specs.Request.{request_of, finite_three_of, is_boxed_of, valid_mean_of, valid_sd_of, valid_means_of, valid_sds_of, valid_boxes_of, up_to_of, valid_controls_of, two_each_of, admitted_of, start_of, low_of, high_of};
 
 use work::{FitEvaluations, Iterations, QuadratureEvaluations};
 
 // A parameter's bounds and start, of group 0 and of group 1.
-#[derive(Drop)]
+#[derive(Clone, Copy)]
 pub struct Bounds {
     pub low: [f64; 2],
     pub high: [f64; 2],
@@ -13,7 +15,7 @@ pub struct Bounds {
 }
 
 // Bounds and starts of both parameters, the limits, and the tolerance of the projected gradient's norm.
-#[derive(Drop)]
+#[derive(Clone, Copy)]
 pub struct Request {
     pub mean: Bounds,
     pub sd: Bounds,

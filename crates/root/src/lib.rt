@@ -5,6 +5,8 @@
 // the last place at most; no exact root lies in the middle of two f64.
 // Special cases: a zero keeps its sign; NaN, minus infinity and every number below zero give NaN; plus infinity stays.
 // A number below normal is brought up by its leading zeros, and its root is normal.
+#![tactic(auto)]
+
 pub mod parts;
 pub mod pencil;
 

@@ -3,7 +3,7 @@ ghost use Rattle.std.specs.Prelude.{◌≡◌, ◌^◌, ◌<◌};
 ghost use Rattle.root.specs.Steps.{digits, power, radicand_of, rounded_of, packed_of};
 
 // The power is the exponent's field and 1023: half of it is the field of the root.
-#[derive(Drop)]
+#[derive(Clone, Copy)]
 pub struct Parts {
     pub digits: u64,
     pub power: u64,

@@ -3,7 +3,7 @@ ghost use Rattle.std.specs.Prelude.{◌≡◌, cond, ◌*◌, ◌^◌, ◌≤◌
 ghost use Rattle.root.specs.Steps.{start_of, step_of, pencil_of};
 
 // `coming` has 54 digits, the next two to bring down on top.
-#[derive(Drop)]
+#[derive(Clone, Copy)]
 pub struct Row {
     pub coming: u64,
     pub down: u64,

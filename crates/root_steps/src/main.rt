@@ -1,4 +1,6 @@
 // Draws the square root of each number that standard input has, one a line, as a table of steps. A line that is no number is answered in words.
+#![tactic(auto)]
+
 mod say;
 mod table;
 
@@ -7,14 +9,14 @@ ghost use Rattle.std.specs.Prelude.{◌≤◌};
 use libc::{STDERR_FILENO, STDIN_FILENO};
 
 // The bits of an f64, or none.
-#[derive(Drop)]
+#[derive(Clone, Copy)]
 enum Number {
     Bits(u64),
     Missing,
 }
 
 // A line of so many bytes, no line more, or a reading that failed.
-#[derive(Drop)]
+#[derive(Clone, Copy)]
 enum Line {
     Of(usize),
     End,

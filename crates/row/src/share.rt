@@ -9,7 +9,7 @@ use quadrature::Integral;
 use work::{Ending, QuadratureEvaluations};
 
 // A litter's share of the objective. The Hessian stands by rows.
-#[derive(Drop)]
+#[derive(Clone, Copy)]
 pub struct Row {
     pub end: Ending,
     pub used: QuadratureEvaluations,

@@ -1,4 +1,6 @@
 // A second objective over the same stepper: a bowl in two coordinates, the pair (0, 2); the pair (1, 3) is held at zero.
+#![tactic(auto)]
+
 ghost use Rattle.std.specs.Prelude.{◌≡◌};
 ghost use Rattle.second.specs.Second.{at, bowl_at, bowl_at_of};
 ghost use Rattle.course.specs.Drives.{course_of};
@@ -8,7 +10,7 @@ use stepper::Plan;
 use value::Totals;
 use work::Ending;
 
-#[derive(Drop)]
+#[derive(Clone, Copy)]
 pub struct Value {
     pub end: Ending,
     pub used: u64,

@@ -1,9 +1,11 @@
 // `project`, `norm`, the direction and the candidate of the source. Coordinates are two means, then two variances; the Hessian stands by rows.
+#![tactic(auto)]
+
 ghost use Rattle.std.specs.Prelude.{◌≡◌, ◌<◌};
 ghost use Rattle.step.specs.Step.{project_at_of, project_of, norm_of, damping_of, newton_of, held_of, alone_of, group_step_of, finite_four_of, dot_of, safe_of, direction_of, candidate_of, slope_of, still_of};
 
 // A group's step.
-#[derive(Drop)]
+#[derive(Clone, Copy)]
 pub struct Move {
     pub mean: f64,
     pub variance: f64,

@@ -1,4 +1,6 @@
 // The descent, driven from outside: a state by value that awaits the objective's value at a point, or has stopped.
+#![tactic(auto)]
+
 ghost use Rattle.std.specs.Prelude.{◌≡◌};
 ghost use Rattle.descent.specs.Status.{awaits_of};
 ghost use Rattle.stepper.specs.Machine.{direction_at_of, one_more_of, begin_of, over_of, failed_of, line_of, halved_of, awaiting_of, offered_of, propose_of, arrive_of, tell_of};
@@ -9,7 +11,7 @@ use value::Totals;
 use work::{FitEvaluations, Iterations};
 
 // What a descent keeps to: its box, its tolerance and its limits.
-#[derive(Drop)]
+#[derive(Clone, Copy)]
 pub struct Plan {
     pub lo: [f64; 4],
     pub hi: [f64; 4],
@@ -19,14 +21,14 @@ pub struct Plan {
 }
 
 // What is awaited: while the status is NoStatus the value at a trial, or, before it has begun, at the start.
-#[derive(Drop)]
+#[derive(Clone, Copy)]
 pub struct Phase {
     pub status: Status,
     pub begun: bool,
 }
 
 // The value at `next` is awaited, and the evaluations count it: a trial along `way` from x, where the value is v, at alpha, with `left` trials after it.
-#[derive(Drop)]
+#[derive(Clone, Copy)]
 pub struct Stepper {
     pub phase: Phase,
     pub next: [f64; 4],
@@ -40,7 +42,7 @@ pub struct Stepper {
     pub watch: Watch,
 }
 
-#[derive(Drop)]
+#[derive(Clone, Copy)]
 struct Offer {
     wants: bool,
     state: Stepper,

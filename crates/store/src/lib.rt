@@ -1,4 +1,6 @@
 // Values stored into a lent buffer from its start on, and a mark as a count.
+#![tactic(auto)]
+
 ghost use Rattle.std.specs.Prelude.{◌≡◌, cond, ◌≤◌, length};
 ghost use Rattle.store.specs.Stored.{stored};
 

@@ -1,10 +1,12 @@
 // The group summary: for each group the number of litters, successes, trials and extreme litters.
+#![tactic(auto)]
+
 ghost use Rattle.std.specs.Prelude.{◌≡◌, cond, ◌<◌, length};
 ghost use Rattle.summary.specs.Summary.{extreme_of, no_counts, plus_of, litter_counts_of, counts_of, listed_of, refusal_of, summary_of, Adds};
 
 use work::Ending;
 
-#[derive(Drop)]
+#[derive(Clone, Copy)]
 pub struct GroupCounts {
     pub litters: u64,
     pub successes: u64,
@@ -12,7 +14,7 @@ pub struct GroupCounts {
     pub extreme: u64,
 }
 
-#[derive(Drop)]
+#[derive(Clone, Copy)]
 pub struct Summary {
     pub end: Ending,
     pub first: GroupCounts,

@@ -3,7 +3,7 @@
 ghost use Rattle.std.specs.Prelude.{◌≡◌};
 ghost use Rattle.tables.specs.Erfc.{erfc_row_of};
 
-#[derive(Drop)]
+#[derive(Clone, Copy)]
 pub struct ErfcRow {
     pub centre: f64,
     pub value: f64,

@@ -3,7 +3,7 @@
 ghost use Rattle.std.specs.Prelude.{◌≡◌};
 ghost use Rattle.tables.specs.Exp.{exp_row_of};
 
-#[derive(Drop)]
+#[derive(Clone, Copy)]
 pub struct ExpRow {
     pub value: f64,
     pub rest: f64,

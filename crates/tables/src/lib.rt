@@ -1,4 +1,6 @@
 // The rows of the tables that `exp`, `log` and `erfc` read: one module each, written by tools/tables.py.
+#![tactic(auto)]
+
 pub mod erfc;
 pub mod exp;
 pub mod log;

@@ -3,7 +3,7 @@
 ghost use Rattle.std.specs.Prelude.{◌≡◌};
 ghost use Rattle.tables.specs.Log.{log_row_of};
 
-#[derive(Drop)]
+#[derive(Clone, Copy)]
 pub struct LogRow {
     pub centre: f64,
     pub inverse: f64,

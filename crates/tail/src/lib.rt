@@ -1,4 +1,6 @@
 // The tails: how much mass beyond a point there can be, and steps outward until that is within a goal.
+#![tactic(auto)]
+
 ghost use Rattle.std.specs.Prelude.{◌≡◌};
 ghost use Rattle.tail.specs.Tail.{term_of, tail_bound_of, within_of, closed_of, both_closed_of, bound_after_of, tail_goal_of, walk_out_of, bounded_of};
 
@@ -9,14 +11,14 @@ use posterior::side::Side;
 use work::Ending;
 
 // A side: not yet bounded, or bounded by a number, which may be infinite or a NaN.
-#[derive(Drop)]
+#[derive(Clone, Copy)]
 pub enum TailBound {
     Open,
     At(f64),
 }
 
 // What the walks of one litter share: its pups, mean and spread, and the mode, the logarithm there, the scale and the goal.
-#[derive(Drop)]
+#[derive(Clone, Copy)]
 pub struct Hill {
     pub total: u32,
     pub mean: f64,
@@ -27,7 +29,7 @@ pub struct Hill {
     pub goal: f64,
 }
 
-#[derive(Drop)]
+#[derive(Clone, Copy)]
 pub struct Tail {
     pub end: Ending,
     pub p: Posterior,

@@ -7,7 +7,7 @@ ghost use Rattle.template.specs.Says.{values_of};
 
 use crate::token::Token;
 
-#[derive(Drop)]
+#[derive(Clone, Copy)]
 pub struct Values {
     pub fits: bool,
     pub at: usize,

@@ -5,7 +5,7 @@ ghost use Rattle.template.specs.Read.{read_field};
 ghost use Rattle.template.specs.Says.{Says};
 
 // A value and where the text goes on.
-#[derive(Drop)]
+#[derive(Clone, Copy)]
 pub enum Token {
     Value(u64, usize),
     Departs,

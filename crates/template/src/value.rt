@@ -6,7 +6,7 @@ ghost use Rattle.template.specs.Says.{ran_of, Says};
 use crate::token::Token;
 
 // A run of digits: the number with them, how many, and where the text goes on.
-#[derive(Drop)]
+#[derive(Clone, Copy)]
 pub struct Ran {
     pub value: u64,
     pub count: u64,

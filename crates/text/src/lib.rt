@@ -1,4 +1,6 @@
 // From a request's bytes to its answer's.
+#![tactic(auto)]
+
 ghost use Rattle.std.specs.Prelude.{◌≡◌, ◌≤◌, ◌<◌, length};
 ghost use Rattle.num.specs.F64.{bits as F64·bits};
 ghost use Rattle.fit.specs.Fit.{fit_of};

@@ -1,4 +1,6 @@
 // What a trial of the line search comes to, with the number that decided it.
+#![tactic(auto)]
+
 ghost use Rattle.std.specs.Prelude.{◌≡◌};
 ghost use Rattle.descent.specs.Descent.{rounds, allowance_of};
 ghost use Rattle.trial.specs.Judged.{norm_at_of, idle_of, judged_of};

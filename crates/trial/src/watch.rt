@@ -5,7 +5,7 @@ ghost use Rattle.trial.specs.Watch.{by_newest_of, noted_of};
 use descent::Trial;
 
 // By the newest trial: none, or it took its step; it took none; the evaluation limit cut it off.
-#[derive(Drop)]
+#[derive(Clone, Copy)]
 pub enum Since {
     Arrived,
     Missed,
@@ -13,7 +13,7 @@ pub enum Since {
 }
 
 // Counted down: `kept` is the trial that is looked for once `left` is 0.
-#[derive(Drop)]
+#[derive(Clone, Copy)]
 pub struct Watch {
     pub left: u64,
     pub kept: Trial,

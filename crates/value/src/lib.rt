@@ -1,8 +1,10 @@
 // The value of an objective at a point: the negative log-likelihood, its gradient by coordinate, its Hessian by rows, and the largest refinement behind them.
+#![tactic(auto)]
+
 ghost use Rattle.std.specs.Prelude.{◌≡◌};
 ghost use Rattle.value.specs.Totals.{no_totals};
 
-#[derive(Drop)]
+#[derive(Clone, Copy)]
 pub struct Totals {
     pub nll: f64,
     pub gradient: [f64; 4],

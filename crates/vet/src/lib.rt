@@ -1,4 +1,6 @@
 // A claim vetted: the request's checks, the box, then what the objective at the claimed point decides. No work limit is read past its check.
+#![tactic(auto)]
+
 ghost use Rattle.std.specs.Prelude.{◌≡◌};
 ghost use Rattle.vet.specs.Vet.{placed_of, vet_of};
 

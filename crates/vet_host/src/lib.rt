@@ -1,4 +1,6 @@
 // A claim vetted as a host asks for it: five numbers for the claim, the litters as they are lent, the verdict put into buffers.
+#![tactic(auto)]
+
 ghost use Rattle.std.specs.Prelude.{◌≡◌, ◌≤◌, length};
 ghost use Rattle.store.specs.Given.{given};
 ghost use Rattle.claim.specs.Claim.{claim_from};

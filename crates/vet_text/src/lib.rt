@@ -1,4 +1,6 @@
 // From the bytes of a request with a claim to those of the verdict.
+#![tactic(auto)]
+
 ghost use Rattle.std.specs.Prelude.{◌≡◌, ◌≤◌, ◌<◌, length};
 ghost use Rattle.num.specs.F64.{bits_of};
 ghost use Rattle.render.specs.Written.{written};

@@ -1,9 +1,11 @@
 // How an answer ends, the three counters, and the definitions that count work.
+#![tactic(auto)]
+
 ghost use Rattle.std.specs.Prelude.{◌≡◌};
 ghost use Rattle.work.specs.Ended.{is_refused, number_of, reason_of};
 
 // An answer's ending. A `Domain` carries its reason, 1 to 6.
-#[derive(Drop)]
+#[derive(Clone, Copy)]
 pub enum Ending {
     Answered,
     InvalidInput,
@@ -45,11 +47,11 @@ pub fn reason(e: Ending) -> u64
 }
 
 // One counter for each thing counted, so that none stands where another is meant.
-#[derive(Drop)]
+#[derive(Clone, Copy)]
 pub struct FitEvaluations(pub u64);
 
-#[derive(Drop)]
+#[derive(Clone, Copy)]
 pub struct Iterations(pub u64);
 
-#[derive(Drop)]
+#[derive(Clone, Copy)]
 pub struct QuadratureEvaluations(pub u64);
