@@ -106,8 +106,8 @@ long_enough b t e h = let s = shape_holds b (sym e ∙ h) in omega (arith, s.lon
 pub has_shape : (b : List ℕ) (t : Bool) → t ≡ shaped_of b → t ≡ true → Shaped b
 has_shape b t e h = shape_holds b (sym e ∙ h)
 
-pub in_order : (from to n : ℕ) (s : Bool) → s ≡ (leb from to && leb to n) → s ≡ true → from ≤ to
-in_order from to n s f k = leb-true from to (and_left (leb from to) (leb to n) (sym f ∙ k))
+pub in_order_lem : (from to n : ℕ) (s : Bool) → s ≡ (leb from to && leb to n) → s ≡ true → from ≤ to
+in_order_lem from to n s f k = leb-true from to (and_left (leb from to) (leb to n) (sym f ∙ k))
 
 pub in_bounds : (b : List ℕ) (from to n : ℕ) (s : Bool) → n ≡ count_in b → s ≡ (leb from to && leb to n) → s ≡ true → to ≤ count_in b
 in_bounds b from to n s e f k = rw (← e) (leb-true to n (and_right (leb from to) (leb to n) (sym f ∙ k)))

@@ -58,5 +58,5 @@ module _ (f : Fit) (b l : List Float) (c : List ℕ) (t : Bool) (e : t ≡ fit_r
   unfolding fit_given
   fit_is g u h i p = then _ _ _ _ (by_not_true t _ e h) (rw i at p)
 
-pub fit_of : (u : Fit) (r q : Request) (cs : List ℕ) (es : List Float) → u ≡ fit_of r cs es → r ≡ q → u ≡ fit_of q cs es
-fit_of u r q cs es e h = rw (← h) e
+pub fit_of_lem : (u : Fit) (r q : Request) (cs : List ℕ) (es : List Float) → u ≡ fit_of r cs es → r ≡ q → u ≡ fit_of q cs es
+fit_of_lem u r q cs es e h = rw (← h) e

@@ -181,6 +181,7 @@ module _ {X O D : Type 0} (p : Problem X O D) (Q : X → O → Type 0) (x₀ : X
 
   -- Every step by the rounding rule ends at no more than the f64 sum of the likelihood before it and its own allowance.
   pub rounding_step : {x : X} {v : O} {ts : List Trial} (a : Float) → Here x v ts → Among (ByRounding a) ts → Rounded p Q a
+  rounding_step a starts m = elim m [ ]
   rounding_step a (stays {t = t} u l) (newest e) = absurd (true_not_false (ap (λ s. taken_of s) e ∙ u))
   rounding_step a (stays u l) (older m) = rounding_step a l m
   rounding_step a (falls g l) (newest e) = absurd (true_not_false (other_kind a _ (e ∙ g.trial)))
@@ -258,6 +259,7 @@ module _ {X O D : Type 0} (p : Problem X O D) (Q : X → O → Type 0) (x₀ : X
 
 -- before the first trial there is none
 pub none_among : {A Z : Type 0} (a : A) (bs : List A) → bs ≡ [] → Among a bs → Z
+none_among {A = A} {Z = Z} a [] e m = elim m [ ]
 none_among a (b ∷ bs) e m = let z = ap length e in absurd (omega arith)
 
 -- ---- the theorem: whatever Q is known of the values, the trials led to the answer from one that the start has, and the trials before each question were as they say

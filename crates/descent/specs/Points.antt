@@ -33,9 +33,13 @@ module _ {E Y X O : Type 0} (at : E → Y) (ev : X → Work E Y O) where
   own_values : (x : X) (e : Ended O) (y : Place X O) (more : O → List (Place X O)) → run at (ev x) ≡ e → ((v : O) → Among y (more v) → run at (ev y.at) ≡ done y.value) → Among y (noted x e more) → run at (ev y.at) ≡ done y.value
   own_values x (done v) y more e g (newest h) = rw h e
   own_values x (done v) y more e g (older m) = g v m
+  own_values x (stopped r) y more e g m = elim m [ ]
+  own_values x short y more e g m = elim m [ ]
 
   pub point_value : {A : Type 0} (w : Work (Asked X) O A) (y : Place X O) → Among y (points_in w) → run at (ev y.at) ≡ done y.value
   unfolding points_in
+  point_value {A = A} (ret a) y m = elim m [ ]
+  point_value {A = A} (stop r) y m = elim m [ ]
   point_value (ask q k) y m = own_values q.at (run at (ev q.at)) y (λ v. points_in (k v)) refl (λ v n. point_value (k v) y n) m
 
   module _ (l : ℕ) where
@@ -46,7 +50,7 @@ module _ {E Y X O : Type 0} (at : E → Y) (ev : X → Work E Y O) where
     goes_on q k a u short n h e g = impossible (cc)
 
     -- where P is had by every answer to values that are all among ps, and the points are, P is had by the answer that code comes to
-    pub of_driven : {A : Type 0} {P : A → Type 0} {w : Work (Asked X) O A} (ps : List (Place X O)) (u : ℕ) (a : A) → Given (λ (q : Asked X) (v : O). Among (place q.at v) ps) P w → ((y : Place X O) → Among y (points_in w) → Among y ps) → (driven at (λ q. ev q.at) l u w).ended ≡ done a → P a
+    pub of_driven : {A : Type 0} {P : A → Type 0} (ps : List (Place X O)) {w : Work (Asked X) O A} (u : ℕ) (a : A) → Given (λ (q : Asked X) (v : O). Among (place q.at v) ps) P w → ((y : Place X O) → Among y (points_in w) → Among y ps) → (driven at (λ q. ev q.at) l u w).ended ≡ done a → P a
     unfolding driven points_in
     of_driven ps u a (holds {a = b} h) s e = let q : b ≡ a = cc in rw q at h
     of_driven ps u a refuses s e = impossible (cc)
@@ -61,7 +65,7 @@ module _ {E Y X O : Type 0} (at : E → Y) (ev : X → Work E Y O) where
     stops_at q o k u short n h e f g = f (cc)
 
     -- where I is had by every question that is asked after values that are all among ps, and the points are, I is had by the question that was refused
-    pub of_refused : {A : Type 0} {I : Asked X → Type 0} {P : A → Type 0} {w : Work (Asked X) O A} (ps : List (Place X O)) (u : ℕ) (o : Asked X) → Asks (λ (q : Asked X) (v : O). Among (place q.at v) ps) I P w → ((y : Place X O) → Among y (points_in w) → Among y ps) → (driven at (λ q. ev q.at) l u w).asked ≡ refused o → I o
+    pub of_refused : {A : Type 0} {I : Asked X → Type 0} {P : A → Type 0} (ps : List (Place X O)) {w : Work (Asked X) O A} (u : ℕ) (o : Asked X) → Asks (λ (q : Asked X) (v : O). Among (place q.at v) ps) I P w → ((y : Place X O) → Among y (points_in w) → Among y ps) → (driven at (λ q. ev q.at) l u w).asked ≡ refused o → I o
     unfolding driven points_in
     of_refused ps u o (gives h) s e = impossible (cc)
     of_refused {I = I} ps u o (asks {e = q} {k = k} i b) s e =

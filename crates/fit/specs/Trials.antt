@@ -108,6 +108,7 @@ most_iterations n boxes one more least rest litters h =
     leb-true n 1000 (and_right least _ d)
 
 not_among : {n : ℕ} {ts : List Trial} → Trials n ts → Among NotMoved ts → ⊥
+not_among (no_trial {n = n}) m = elim m [ ]
 not_among (one_more h l) (newest e) = let z : moved_of NotMoved ≡ true = ap (λ t. moved_of t) e ∙ h in impossible (cc)
 not_among (one_more h l) (older m) = not_among l m
 

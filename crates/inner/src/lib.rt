@@ -11,8 +11,7 @@ use value::Totals;
 use work::QuadratureEvaluations;
 
 // Two numbers: the logarithm and the ratio.
-#[unsafe(no_mangle)]
-pub extern "C" fn inner_normal(x: f64, out: &mut [f64]) -> u64
+pub fn inner_normal(x: f64, out: &mut [f64]) -> u64
     ensures { (length out.old < 2 → result ≡ 1) × (2 ≤ length out.old → result ≡ 0) }
 {
     if out.len() < 2 {
@@ -24,8 +23,7 @@ pub extern "C" fn inner_normal(x: f64, out: &mut [f64]) -> u64
     0
 }
 
-#[unsafe(no_mangle)]
-pub extern "C" fn inner_mills(x: f64, r: f64, out: &mut [f64]) -> u64
+pub fn inner_mills(x: f64, r: f64, out: &mut [f64]) -> u64
     ensures { (length out.old < 4 → result ≡ 1) × (4 ≤ length out.old → result ≡ 0) }
 {
     if out.len() < 4 {
@@ -37,8 +35,7 @@ pub extern "C" fn inner_mills(x: f64, r: f64, out: &mut [f64]) -> u64
 }
 
 // Nine numbers: the logarithm, the score, the curvature, six moments.
-#[unsafe(no_mangle)]
-pub extern "C" fn inner_conditional(eta: f64, successes: u32, total: u32, out: &mut [f64]) -> u64
+pub fn inner_conditional(eta: f64, successes: u32, total: u32, out: &mut [f64]) -> u64
     ensures { (length out.old < 9 → result ≡ 1) × (9 ≤ length out.old → result ≡ 0) }
 {
     if out.len() < 9 {
@@ -73,8 +70,7 @@ fn pairs(rule: [Pair; 16], out: &mut [f64])
 }
 
 // Sixteen nodes, each with its weight after it.
-#[unsafe(no_mangle)]
-pub extern "C" fn inner_legendre(out: &mut [f64]) -> u64
+pub fn inner_legendre(out: &mut [f64]) -> u64
     ensures { (length out.old < 32 → result ≡ 1) × (32 ≤ length out.old → result ≡ 0) }
 {
     if out.len() < 32 {
@@ -85,16 +81,14 @@ pub extern "C" fn inner_legendre(out: &mut [f64]) -> u64
     0
 }
 
-#[unsafe(no_mangle)]
-pub extern "C" fn inner_tail_bound(relative: f64, slope: f64, eta: f64, sd: f64, total: u32) -> f64
+pub fn inner_tail_bound(relative: f64, slope: f64, eta: f64, sd: f64, total: u32) -> f64
     ensures { result ≡ tail_bound_of relative slope eta sd total }
 {
     tail::tail_bound(relative, slope, eta, sd, total)
 }
 
 // Eight numbers: the value, the gradient, the Hessian by rows, the refinement. Three counts: the ending's number, its reason, the evaluations.
-#[unsafe(no_mangle)]
-pub extern "C" fn inner_row(
+pub fn inner_row(
     mean: f64,
     variance: f64,
     successes: u32,
@@ -133,8 +127,7 @@ pub extern "C" fn inner_row(
 }
 
 // Twenty-two numbers: the value, the gradient, the Hessian by rows, the refinement. Three counts: the ending's number, its reason, the evaluations.
-#[unsafe(no_mangle)]
-pub extern "C" fn inner_objective(
+pub fn inner_objective(
     x0: f64,
     x1: f64,
     x2: f64,
@@ -187,8 +180,7 @@ fn sum_in(v: &[f64]) -> Totals
 }
 
 // What the objective makes of that sum.
-#[unsafe(no_mangle)]
-pub extern "C" fn inner_total(v: &[f64], used: u64, out: &mut [f64], counts: &mut [u64]) -> u64
+pub fn inner_total(v: &[f64], used: u64, out: &mut [f64], counts: &mut [u64]) -> u64
     ensures value { (length out.old < 22 → result ≡ 1) × (length counts.old < 3 → result ≡ 1) }
     ensures value_2 { 22 ≤ length out.old → 3 ≤ length counts.old → result ≡ 0 }
 {
@@ -209,8 +201,7 @@ pub extern "C" fn inner_total(v: &[f64], used: u64, out: &mut [f64], counts: &mu
 }
 
 // Two numbers: the bits of the f64 that a text begins with, in either spelling, and the place where the text goes on. The status is 2 where it begins with none.
-#[unsafe(no_mangle)]
-pub extern "C" fn inner_value(text: &[u8], out: &mut [u64]) -> u64
+pub fn inner_value(text: &[u8], out: &mut [u64]) -> u64
     ensures { length out.old < 2 → result ≡ 1 }
 {
     if out.len() < 2 {

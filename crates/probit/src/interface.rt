@@ -35,8 +35,7 @@ fn fitted(r: Request, litters: &[u32]) -> Fit
 }
 
 // Twelve bounds: low, high and start of mean 0, mean 1, SD 0, SD 1. Answers the ending's number.
-#[unsafe(no_mangle)]
-pub extern "C" fn probit_fit(
+pub fn probit_fit(
     bounds: &[f64],
     tolerance: f64,
     evaluations: u64,
@@ -64,8 +63,7 @@ fn watched(r: Request, litters: &[u32], number: u64) -> Seen
 }
 
 // probit_fit, and beside it why the trial of that number, from 1, ended as it did, and what stopped the fit. Answers the ending's number.
-#[unsafe(no_mangle)]
-pub extern "C" fn probit_why(
+pub fn probit_why(
     bounds: &[f64],
     tolerance: f64,
     evaluations: u64,
@@ -89,8 +87,7 @@ pub extern "C" fn probit_why(
 }
 
 // Claimed are two means, two variances and the likelihood. Answers the verdict's number: 0 accepted, 1, 2, 5, 6 or 7.
-#[unsafe(no_mangle)]
-pub extern "C" fn probit_vet(
+pub fn probit_vet(
     bounds: &[f64],
     tolerance: f64,
     evaluations: u64,
@@ -119,8 +116,7 @@ fn point_of(p: &[f64]) -> [f64; 4]
 }
 
 // Four coordinates: two means, then two variances. Answers the ending's number.
-#[unsafe(no_mangle)]
-pub extern "C" fn probit_objective(
+pub fn probit_objective(
     point: &[f64],
     litters: &[u32],
     numbers: &mut [f64],
@@ -138,8 +134,7 @@ pub extern "C" fn probit_objective(
 }
 
 // Answers the ending's number.
-#[unsafe(no_mangle)]
-pub extern "C" fn probit_summary(litters: &[u32], counts: &mut [u64]) -> u64
+pub fn probit_summary(litters: &[u32], counts: &mut [u64]) -> u64
     ensures counts_after { given result [] counts.new ≡ summary_given (summary_of litters.now) counts.old }
     ensures litters_value { litters.now ≡ litters.now }
 {
@@ -150,8 +145,7 @@ pub extern "C" fn probit_summary(litters: &[u32], counts: &mut [u64]) -> u64
 }
 
 // Estimates, covariance by rows, standard errors; bit i of `marks` marks estimate i as of positive domain. Answers 0, 1 or 8.
-#[unsafe(no_mangle)]
-pub extern "C" fn probit_intervals(
+pub fn probit_intervals(
     estimates: &[f64],
     covariance: &[f64],
     errors: &[f64],
@@ -165,45 +159,35 @@ pub extern "C" fn probit_intervals(
 }
 
 // The bytes of an archive of that many litters; 0 for more than 4,096.
-#[unsafe(no_mangle)]
-pub extern "C" fn probit_archive_size(litters: usize) -> usize
+pub fn probit_archive_size(litters: usize) -> usize
     ensures { result ≡ size_given litters }
 {
     archive_host::size_in(litters)
 }
 
 // Litters in, three numbers each, an archive's bytes out. Answers 0, or 1 and nothing is written.
-#[unsafe(no_mangle)]
-pub extern "C" fn probit_archive_write(litters: &[u32], archive: &mut [u8]) -> u64
+pub fn probit_archive_write(litters: &[u32], archive: &mut [u8]) -> u64
     ensures { left result archive.new ≡ write_given litters.now archive.old }
 {
     archive_host::write_in(litters, archive)
 }
 
 // The eight counts from one position up to but not including another. Answers 0, 1 or 4.
-#[unsafe(no_mangle)]
-pub extern "C" fn probit_archive_range(
-    archive: &[u8],
-    from: usize,
-    to: usize,
-    counts: &mut [u64],
-) -> u64
+pub fn probit_archive_range(archive: &[u8], from: usize, to: usize, counts: &mut [u64]) -> u64
     ensures { left result counts.new ≡ range_given archive.now from to counts.old }
 {
     archive_host::range_in(archive, from, to, counts)
 }
 
 // 1 for an archive whose shape, litters and totals are right, else 0.
-#[unsafe(no_mangle)]
-pub extern "C" fn probit_archive_check(archive: &[u8]) -> u64
+pub fn probit_archive_check(archive: &[u8]) -> u64
     ensures { result ≡ check_given archive.now }
 {
     archive_host::check_in(archive)
 }
 
 // Events and exposures by rows. Answers the ending's number.
-#[unsafe(no_mangle)]
-pub extern "C" fn probit_counts_objective(
+pub fn probit_counts_objective(
     shape: f64,
     rate: f64,
     events: &[u32],
@@ -218,8 +202,7 @@ pub extern "C" fn probit_counts_objective(
 }
 
 // Six bounds: low, high and start of the shape, then of the rate. Answers the ending's number.
-#[unsafe(no_mangle)]
-pub extern "C" fn probit_counts_fit(
+pub fn probit_counts_fit(
     bounds: &[f64],
     tolerance: f64,
     evaluations: u64,
@@ -245,16 +228,14 @@ pub extern "C" fn probit_counts_fit(
 }
 
 // The interface's version: 1000 times its first number, and its second.
-#[unsafe(no_mangle)]
-pub extern "C" fn probit_version() -> u64
+pub fn probit_version() -> u64
     ensures { result ≡ 1008 }
 {
     1008
 }
 
 // A request's bytes in, its answer's bytes out: how many, or 0 where `out` has fewer than 512 bytes, and then it is left as it was.
-#[unsafe(no_mangle)]
-pub extern "C" fn probit_text(request: &[u8], out: &mut [u8]) -> usize
+pub fn probit_text(request: &[u8], out: &mut [u8]) -> usize
     ensures value { length out.old < room → (result ≡ 0) × (out.new ≡ out.old) }
     ensures value_2 { room ≤ length out.old → (result ≡ length (answer_text request.now)) × (out.new ≡ written out.old 0 (answer_text request.now)) }
 {
@@ -262,16 +243,14 @@ pub extern "C" fn probit_text(request: &[u8], out: &mut [u8]) -> usize
 }
 
 // The state is lent: 8,193 bytes and two counts. Answers 0; 4 after finishing, 1 for another size, and then nothing is written.
-#[unsafe(no_mangle)]
-pub extern "C" fn probit_part(held: &mut [u8], counts: &mut [u64], bytes: &[u8]) -> u64
+pub fn probit_part(held: &mut [u8], counts: &mut [u64], bytes: &[u8]) -> u64
     ensures { lent result held.new counts.new ≡ part_in_of held.old counts.old bytes.now }
 {
     parts::lent::part_in(held, counts, bytes)
 }
 
 // Answers 0 with the request, 4 for Form with its line.
-#[unsafe(no_mangle)]
-pub extern "C" fn probit_finish(
+pub fn probit_finish(
     held: &[u8],
     counts: &mut [u64],
     request: &mut [u64],
@@ -283,8 +262,7 @@ pub extern "C" fn probit_finish(
 }
 
 // A finishing call too, with the answer's bytes: how many, or 0 for a wrong size or a short buffer, and then nothing is written.
-#[unsafe(no_mangle)]
-pub extern "C" fn probit_answer(held: &[u8], counts: &mut [u64], out: &mut [u8]) -> usize
+pub fn probit_answer(held: &[u8], counts: &mut [u64], out: &mut [u8]) -> usize
     ensures { answered result counts.new out.new ≡ answer_in held.now counts.old out.old }
 {
     if !crate::joined::answer_room(held.len(), counts.len(), out.len()) {

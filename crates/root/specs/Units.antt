@@ -67,8 +67,8 @@ pub record Read (b n : ℕ) : Type 0 where
 not_at : (b : ℕ) → b < 2 ^ 63 → (b / 2 ^ 52 ≡ 2047 → ⊥) → b < 0x7ff0_0000_0000_0000
 not_at b h n = omega arith
 
-of_fields : (b n : ℕ) → Fields (leb (2 ^ 63) b) (b % 2 ^ 63 / 2 ^ 52) (b % 2 ^ 52) n → Read b n
-of_fields b n r =
+of_fields_lem : (b n : ℕ) → Fields (leb (2 ^ 63) b) (b % 2 ^ 63 / 2 ^ 52) (b % 2 ^ 52) n → Read b n
+of_fields_lem b n r =
     let low : b < 2 ^ 63 = leb-false (2 ^ 63) b r.not_minus in
     let same : b % 2 ^ 63 ≡ b = mod-eq_of_lt low in
     let is : n ≡ value (b / 2 ^ 52) (b % 2 ^ 52) = rw same at r.is in
@@ -76,7 +76,7 @@ of_fields b n r =
 
 read_at : (b : ℕ) → T (positive (of_bits binary64 b)) → Read b (units (of_bits binary64 b))
 unfolding of_bits
-read_at b p = of_fields b _ (read (leb (2 ^ 63) b) (b % 2 ^ 63 / 2 ^ 52) (b % 2 ^ 52) p)
+read_at b p = of_fields_lem b _ (read (leb (2 ^ 63) b) (b % 2 ^ 63 / 2 ^ 52) (b % 2 ^ 52) p)
 
 pub bits_read : (x : Float) → T (fits binary64 x) → T (positive x) → Read (to_bits binary64 x) (units x)
 bits_read x f p =

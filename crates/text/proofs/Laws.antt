@@ -25,15 +25,15 @@ use Rattle.text.specs.Kept.{kept_litters}
 
 -- ---- a number of its bits
 
-is_nan : (x : Float) → is_nan x ≡ true → x ≡ nan
+is_nan_lem : (x : Float) → is_nan x ≡ true → x ≡ nan
 unfolding is_nan
-is_nan nan h = refl
-is_nan (inf s) h = absurd (subst T (sym h) tt)
-is_nan (fin s m e) h = absurd (subst T (sym h) tt)
+is_nan_lem nan h = refl
+is_nan_lem (inf s) h = absurd (subst T (sym h) tt)
+is_nan_lem (fin s m e) h = absurd (subst T (sym h) tt)
 
 module _ (n : ℕ) where
-  pub nan_bits : 0x7ff0_0000_0000_0000 < n % 2 ^ 63 → nan ≡ bits n
-  nan_bits h = sym (is_nan (bits n) (sym (nan_bits_is binary64 n) ∙ rw (nan_bits_above binary64 n) (lt-ltb (0x7ff0_0000_0000_0000) (n % 2 ^ 63) h)))
+  pub nan_bits_lem : 0x7ff0_0000_0000_0000 < n % 2 ^ 63 → nan ≡ bits n
+  nan_bits_lem h = sym (is_nan_lem (bits n) (sym (nan_bits_is binary64 n) ∙ rw (nan_bits_above binary64 n) (lt-ltb (0x7ff0_0000_0000_0000) (n % 2 ^ 63) h)))
 
   pub some_bits : n % 2 ^ 63 ≤ 0x7ff0_0000_0000_0000 → T (not (nan_bits binary64 n))
   some_bits h = rw (nan_bits_above binary64 n, le-ltb (0x7ff0_0000_0000_0000) (n % 2 ^ 63) h) tt
@@ -59,9 +59,9 @@ module _ (b buf : List ℕ) (a : Asking) where
   many_of (form k) s f h = absurd (false≢true (sym (ap (λ (x : Asking). x.fits) s) ∙ f))
   many_of (asked vs ls) s f h = let e : a.count ≡ 0 + length ls = rw s in many_answer vs ls (omega arith)
 
-  fit_of : (text : List ℕ) (q : Asked) → read_request text ≡ q → a ≡ asking_of 0 q → buf ≡ fill_request b text → a.fits ≡ true → length b ≡ 384 → a.count ≤ 128 → answer_to q ≡ fit_text (fit_of (request_in a.values) (take (3 * a.count) buf))
-  fit_of text (form k) t s u f l h = absurd (false≢true (sym (ap (λ (x : Asking). x.fits) s) ∙ f))
-  fit_of text (asked vs ls) t s u f l h =
+  fit_of_lem : (text : List ℕ) (q : Asked) → read_request text ≡ q → a ≡ asking_of 0 q → buf ≡ fill_request b text → a.fits ≡ true → length b ≡ 384 → a.count ≤ 128 → answer_to q ≡ fit_text (fit_of (request_in a.values) (take (3 * a.count) buf))
+  fit_of_lem text (form k) t s u f l h = absurd (false≢true (sym (ap (λ (x : Asking). x.fits) s) ∙ f))
+  fit_of_lem text (asked vs ls) t s u f l h =
       let e : a.count ≡ 0 + length ls = rw s in
       let v : a.values ≡ vs = rw s in
       let w : buf ≡ put_litters b 0 ls = u ∙ request_filled b text vs ls t in
@@ -81,4 +81,4 @@ module _ (b buf : List ℕ) (a : Asking) where
 
     pub answer_fit : not a.fits ≡ false → length b ≡ 384 → a.count ≤ 128 → fit_text (fit_of (request_in a.values) (take (3 * a.count) buf)) ≡ answer_text text
     unfolding answer_text
-    answer_fit f l h = sym (fit_of text (read_request text) refl s.0 s.1 (not-false a.fits f) l h)
+    answer_fit f l h = sym (fit_of_lem text (read_request text) refl s.0 s.1 (not-false a.fits f) l h)

@@ -1,8 +1,0 @@
--- `buffers::first_numbers` meets its contract.
-use mathlib.Core.Path.{refl}
-use borrow.Author.Rules.{rules}
-use Rattle.buffers.proofs.first_numbers.Statement.{statement}
-use Rattle.buffers.proofs.first_numbers.Tie as tie
-
-pub first_numbers_spec : {M : Type 1} → statement M
-first_numbers_spec = tie.close (tie.spec (λ c. search rules) (λ c. search rules) (λ c. search rules) (λ c. search rules) (λ c. refl))

@@ -1,0 +1,13 @@
+-- `rows::all_positive` meets its contract, as the exposures still to come decide the whole.
+use mathlib.Core.Path.{◌≡◌}
+use Prim.Native.Nat.{◌-◌}
+use lib.ListN.{length}
+use Rattle.num.specs.Every.{every_from}
+use Rattle.exposure.specs.Rows.{exposure_at, is_positive_of, all_positive_of}
+use Rattle.exposure.proofs.rows.all_positive.Given as goal
+
+abbrev pub invariant-loop-i : goal.invariant-loop-i
+invariant-loop-i l = every_from (λ i. is_positive_of (exposure_at l.exposures i)) (length l.exposures - l.i) l.i ≡ all_positive_of l.exposures
+
+abbrev pub decreases-loop-i : goal.decreases-loop-i
+decreases-loop-i l = length l.exposures - l.i

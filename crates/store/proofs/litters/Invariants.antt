@@ -1,0 +1,12 @@
+-- `store::litters` meets its contract: what stands stored, and after it what stood there.
+use mathlib.Core.Path.{◌≡◌}
+use mathlib.Core.List.{◌++◌}
+use Prim.Native.Nat.{◌-◌, ◌≤◌}
+use lib.ListN.{length, take, drop}
+use Rattle.store.proofs.litters.Given as goal
+
+abbrev pub invariant-loop-i : goal.invariant-loop-i
+invariant-loop-i l = (l.out ≡ take l.i l.l ++ drop l.i l.initial.out) × (length l.out ≡ length l.initial.out) × (l.i ≤ length l.l)
+
+abbrev pub decreases-loop-i : goal.decreases-loop-i
+decreases-loop-i l = length l.l - l.i
