@@ -1,7 +1,0 @@
--- `claimed::departed` meets its contract.
-use mathlib.Core.Path.{refl}
-use Rattle.claimed.proofs.departed.Statement.{statement}
-use Rattle.claimed.proofs.departed.Tie as tie
-
-pub departed_spec : {M : Type 1} → statement M
-departed_spec = tie.close (tie.spec (λ c. refl))

@@ -1,0 +1,6 @@
+-- `coefficient` meets its contract, by what its callees ensure; two of its clauses are theorems of the definition.
+use Rattle.coefficient.proofs.Laws.{larger_first, turned, nothing_chosen}
+use Rattle.coefficient.proofs.coefficient.Goals as goal
+
+pub returns : goal.returns
+returns c = record { value = search larger_first; value_2 = search turned; value_3 = search nothing_chosen }
