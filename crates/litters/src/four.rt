@@ -1,4 +1,4 @@
-// Four litters by value: who calls this needs no walk.
+// Four litters by value.
 ghost use Rattle.std.specs.Prelude.{◌≡◌};
 ghost use Rattle.litters.specs.Table.{no_rows, with_rows};
 

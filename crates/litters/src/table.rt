@@ -1,5 +1,5 @@
 // Litters as a lent run of records, and the table that keeps their numbers.
-// The borrow checker does not cover a slice of structs, so `to_table` is proved by a walk, by hand.
+// The litter at i stands in row i.
 ghost use Rattle.std.specs.Prelude.{◌≡◌, ◌≤◌};
 ghost use Rattle.litters.specs.Table.{no_rows, set_row_of, with_rows, numbers_for_of, handed_on_of};
 

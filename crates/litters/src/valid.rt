@@ -2,6 +2,7 @@
 ghost use Rattle.std.specs.Prelude.{◌≡◌};
 ghost use Rattle.litters.specs.Valid.{valid_litter_of, each_valid_of, valid_litters_of};
 
+#[tactic(auto, unfolding(crate::specs::Valid::valid_litter_of))]
 pub fn valid_litter(successes: u32, total: u32, group: u32) -> bool
     ensures { result ≡ valid_litter_of successes total group }
 {
@@ -31,6 +32,7 @@ pub fn each_valid(litters: &[u32]) -> bool
     true
 }
 
+#[tactic(auto, unfolding(crate::specs::Valid::valid_litters_of))]
 pub fn valid_litters(litters: &[u32]) -> bool
     ensures { (result ≡ valid_litters_of litters.now) × (litters.now ≡ litters.now) }
 {

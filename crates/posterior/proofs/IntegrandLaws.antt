@@ -1,8 +1,6 @@
 -- What an evaluation comes to, by the limit's test.
-use mathlib.Core.Path.{◌≡◌}
-use Prim.Native.Nat.{◌+◌, ◌<◌, ◌≤◌}
-use borrow.Author.Tests.{lt-ltb, le-ltb}
-use lib.Ieee.{Float}
+use Rattle.std.specs.Prelude.{Float}
+use Rattle.std.proofs.Common.{◌≡◌, ◌+◌, ◌<◌, ◌≤◌, lt-ltb, le-ltb}
 use Rattle.work.specs.declared.Ending.TheVariants.{Answered, WorkBudget}
 use Rattle.work.specs.Work.{metered}
 use Rattle.posterior.specs.declared.integrand.Posterior.{Posterior}

@@ -1,2 +1,1 @@
 pub mod IntegrandLaws
-pub mod LentLaws

@@ -53,6 +53,7 @@ pub fn integrand(successes: u32, total: u32, mean: f64, sd: f64, z: f64) -> Poin
     weighed(sd, z, c)
 }
 
+#[tactic(auto, using(crate::proofs::IntegrandLaws::at_counts, crate::proofs::IntegrandLaws::at_short))]
 pub fn evaluate(p: Posterior, z: f64) -> At
     ensures { result ≡ at_of p z }
 {

@@ -1,4 +1,4 @@
-// A lent posterior: an evaluation raises its count where it lies. The borrow checker does not cover `&mut` to a struct, so the work is in `evaluate`, and the walks are by hand.
+// A lent posterior: an evaluation raises its count where it lies. The work is in `evaluate`.
 ghost use Rattle.std.specs.Prelude.{◌≡◌};
 ghost use Rattle.posterior.specs.Integrand.{at_of};
 ghost use Rattle.posterior.specs.Lent.{evaluated_of};
@@ -21,7 +21,7 @@ pub fn evaluate_on(p: &mut Posterior, z: f64) -> Evaluated
     Evaluated { end: a.end, v: a.v }
 }
 
-// The same with a posterior by value: it is made a local and lent. Who calls this one needs no walk.
+// The same with a posterior by value: it is made a local and lent.
 pub fn evaluate_lent(p: Posterior, z: f64) -> At
     ensures { result ≡ at_of p z }
 {

@@ -1,5 +1,5 @@
 // The fit, the objective and the summary of a lent run of litter records: each litter's three numbers go into a table, and the table's numbers to the core.
-// The borrow checker does not cover a slice of structs, so the functions over one are walked by hand: all three by the schema of crates/litters/proofs/Handed.antt.
+// More than 128 litters are refused as none are.
 #![tactic(auto)]
 
 ghost use Rattle.std.specs.Prelude.{◌≡◌};
@@ -57,7 +57,7 @@ pub fn summarize(litters: &[Litter]) -> Summary
     summary_in(litters::table::to_table(litters), litters.len())
 }
 
-// The same with four litters by value: who calls these needs no walk.
+// The same with four litters by value.
 pub fn fit_four(r: Request, litters: [Litter; 4]) -> Fit
     ensures { result ≡ fit_of r (numbers_of litters) }
 {
