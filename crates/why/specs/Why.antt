@@ -62,11 +62,11 @@ spent_by_of Missed = Halvings
 spent_by_of Cut = Spent
 
 abbrev pub test_by : Status → Test → Test
-test_by NoStatus spent = NoTest
-test_by Converged spent = Norm
-test_by EvaluationLimit spent = spent
-test_by IterationLimit spent = Iterations
-test_by LineSearchFailed spent = Halvings
+test_by NoStatus _ = NoTest
+test_by Converged _ = Norm
+test_by EvaluationLimit by = by
+test_by IterationLimit _ = Iterations
+test_by LineSearchFailed _ = Halvings
 
 abbrev pub test_in : Status → Since → Test
 test_in status s = test_by status (spent_by_of s)
