@@ -3,29 +3,27 @@
 #![tactic(auto)]
 
 use input::Read;
-use libc::{STDERR_FILENO, STDOUT_FILENO};
+
+// The file descriptors of standard output and standard error.
+const STDOUT: i32 = 1;
+
+const STDERR: i32 = 2;
 
 fn answer(request: &[u8], end: usize) {
     let n = input::least(end, request.len());
     let mut out = [0u8; 512];
     let m = vet_text::answer(&request[..n], &mut out);
-    if !io::write_all(STDOUT_FILENO, &out[..m]) {
-        io::write_all(
-            STDERR_FILENO,
-            b"probitvet: the verdict was not written whole\n",
-        );
+    if !io::write_all(STDOUT, &out[..m]) {
+        io::write_all(STDERR, b"probitvet: the verdict was not written whole\n");
     }
 }
 
-fn main() {
+fn main(rt: HostRuntime) {
     let mut request = [0u8; 8193];
-    match input::read_all(&mut request) {
+    match input::read_all(&mut rt.stdin(), &mut request) {
         Read::To(end) => answer(&request, end),
         _ => {
-            io::write_all(
-                STDERR_FILENO,
-                b"probitvet: standard input could not be read\n",
-            );
+            io::write_all(STDERR, b"probitvet: standard input could not be read\n");
         }
     }
 }

@@ -4,10 +4,15 @@
 
 use fit::report::Seen;
 use input::Read;
-use libc::{STDERR_FILENO, STDOUT_FILENO};
 use request::Request;
+use std::env::{Env, FillError};
 use template::token::Token;
 use why::Why;
+
+// The file descriptors of standard output and standard error.
+const STDOUT: i32 = 1;
+
+const STDERR: i32 = 2;
 
 // The trial that is asked for, each of them, or an argument that is no number.
 #[derive(Clone, Copy)]
@@ -18,12 +23,12 @@ enum Asked {
 }
 
 fn say(line: &[u8]) {
-    io::write_all(STDERR_FILENO, line);
+    io::write_all(STDERR, line);
 }
 
 fn write(bytes: &[u8], end: usize) {
     let n = input::least(end, bytes.len());
-    if !io::write_all(STDOUT_FILENO, &bytes[..n]) {
+    if !io::write_all(STDOUT, &bytes[..n]) {
         say(b"probitwhy: the answer was not written whole\n");
     }
 }
@@ -147,13 +152,14 @@ fn number(word: &[u8], end: usize) -> Asked {
     }
 }
 
-fn argument() -> Asked {
-    if os::arg_count() < 2 {
-        return Asked::Each;
-    }
+// Argument 0 is the program's name, and those after 1 are passed over. A number has fewer digits than the word holds.
+fn argument(env: &impl Env) -> Asked {
     let mut word = [0u8; 32];
-    let end = os::arg(1, &mut word);
-    number(&word, end)
+    match env.arg(1, &mut word) {
+        Ok(end) => number(&word, end),
+        Err(FillError::NotPresent) => Asked::Each,
+        Err(FillError::TooLong) => Asked::Unclear,
+    }
 }
 
 fn explained_first(asked: Asked, request: &[u8], end: usize) {
@@ -169,10 +175,10 @@ fn answer(asked: Asked, request: &[u8], end: usize) {
     }
 }
 
-fn main() {
-    let asked = argument();
+fn main(rt: HostRuntime) {
+    let asked = argument(&rt);
     let mut request = [0u8; 8193];
-    match input::read_all(&mut request) {
+    match input::read_all(&mut rt.stdin(), &mut request) {
         Read::To(end) => answer(asked, &request, end),
         _ => say(b"probitwhy: standard input could not be read\n"),
     }

@@ -113,7 +113,7 @@ struct Answers {
     summary: Summary,
 }
 
-// The first n of the litters, as a slice that is lent to all three. It is proved by a walk, by hand.
+// The first n of the litters, as a slice that is lent to all three.
 fn lent_first(r: Request, point: [f64; 4], litters: [Litter; 129], n: usize) -> Answers
     requires { n ≤ 129 }
 {

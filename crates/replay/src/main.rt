@@ -2,7 +2,12 @@
 // A record is a line `request N` and N bytes, then a line `answer M` and M bytes. Writes a line for each that differs, then how many ran.
 #![tactic(auto)]
 
-use libc::{STDIN_FILENO, STDOUT_FILENO};
+ghost use Rattle.std.specs.Prelude.{◌≡◌, length};
+
+// The file descriptors of standard input and standard output.
+const STDIN: i32 = 0;
+
+const STDOUT: i32 = 1;
 
 // The bytes that a record's line announces, from one place to another.
 #[derive(Clone, Copy)]
@@ -96,8 +101,8 @@ fn run_at(list: &[u8], at: usize) -> Outcome {
 }
 
 fn say(number: u64, what: &[u8]) {
-    io::print_decimal(STDOUT_FILENO, number);
-    io::write_all(STDOUT_FILENO, what);
+    io::print_decimal(STDOUT, number);
+    io::write_all(STDOUT, what);
 }
 
 // A record has bytes, so there are fewer records than bytes.
@@ -122,8 +127,15 @@ fn replay(list: &[u8]) {
     }
 }
 
+// Room for the list. The clause gives the length alone: so many zeros are too many to prove with.
+fn empty_list() -> [u8; 524288]
+    ensures { 524288 ≡ length result }
+{
+    [0; 524288]
+}
+
 fn main() {
-    let mut list = [0u8; 524288];
-    let n = io::read_full(STDIN_FILENO, &mut list);
+    let mut list = empty_list();
+    let n = io::read_full(STDIN, &mut list);
     replay(&list[..n]);
 }

@@ -6,7 +6,8 @@ mod table;
 
 ghost use Rattle.std.specs.Prelude.{◌≤◌};
 
-use libc::{STDERR_FILENO, STDIN_FILENO};
+// The file descriptor of standard error.
+const STDERR: i32 = 2;
 
 // The bits of an f64, or none.
 #[derive(Clone, Copy)]
@@ -59,14 +60,13 @@ fn kept(line: &mut [u8], n: usize, c: u8) -> usize {
     n + 1
 }
 
-fn read_line(line: &mut [u8]) -> Line {
+fn read_line<R: std::io::Read>(from: &mut R, line: &mut [u8]) -> Line {
     let mut n: usize = 0;
     for _ in 0..18446744073709551615u64 {
         let mut byte = [0u8; 1];
-        let got = libc::read(STDIN_FILENO, &mut byte);
-        if got < 0 {
+        let Ok(got) = from.read(&mut byte) else {
             return Line::Failed;
-        }
+        };
         if got == 0 {
             if n == 0 {
                 return Line::End;
@@ -116,17 +116,15 @@ fn answer(number: u64, line: &[u8], n: usize) {
     }
 }
 
-fn main() {
+fn main(rt: HostRuntime) {
+    let mut input = rt.stdin();
     let mut line = [0u8; 64];
     for number in 1..18446744073709551615u64 {
-        match read_line(&mut line) {
+        match read_line(&mut input, &mut line) {
             Line::Of(n) => answer(number, &line, n),
             Line::End => return,
             Line::Failed => {
-                io::write_all(
-                    STDERR_FILENO,
-                    b"root_steps: standard input could not be read\n",
-                );
+                io::write_all(STDERR, b"root_steps: standard input could not be read\n");
                 return;
             }
         }

@@ -1,27 +1,29 @@
 // The lines of a table.
 ghost use Rattle.std.specs.Prelude.{◌≤◌};
 
-use libc::STDOUT_FILENO;
 use root::pencil::Row;
 
+// The file descriptor of standard output.
+const STDOUT: i32 = 1;
+
 pub fn words(text: &[u8]) {
-    io::write_all(STDOUT_FILENO, text);
+    io::write_all(STDOUT, text);
 }
 
 pub fn line(number: u64) {
     words(b"line ");
-    io::print_decimal(STDOUT_FILENO, number);
+    io::print_decimal(STDOUT, number);
 }
 
 pub fn hex(name: &[u8], n: u64) {
     words(name);
-    io::print_hex(STDOUT_FILENO, n, 16);
+    io::print_hex(STDOUT, n, 16);
     words(b"\n");
 }
 
 fn named(name: &[u8], n: u64) {
     words(name);
-    io::print_decimal(STDOUT_FILENO, n);
+    io::print_decimal(STDOUT, n);
     words(b"\n");
 }
 
@@ -46,7 +48,7 @@ fn count(k: u64) {
     if k < 10 {
         words(b" ");
     }
-    io::print_decimal(STDOUT_FILENO, k);
+    io::print_decimal(STDOUT, k);
 }
 
 // Two binary digits.
