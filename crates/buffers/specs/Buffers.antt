@@ -3,7 +3,7 @@ use Rattle.std.specs.Prelude.{Bool, false, cond, ◌&&◌, List, [], ◌∷◌, 
 use Rattle.std.specs.Float.{nan}
 use Rattle.summary.specs.Summary.{listed_of}
 use Rattle.work.specs.Ended.{number_of, reason_of}
-use Rattle.descent.specs.Status.{number_of as Status·numberOf}
+use Rattle.descent.specs.Status.{number_of as Status·number_of}
 use Rattle.objective.specs.declared.sum.Objective.{Objective}
 use Rattle.summary.specs.declared.Summary.{Summary}
 use Rattle.fit.specs.declared.report.Fit.{Fit}
@@ -45,7 +45,7 @@ mark_at f i = cond (get_or f.active i false) 1 0
 -- status, fit evaluations, iterations, quadrature evaluations, litters, reason, a mark for each coordinate on a bound
 unfoldable pub fit_counts_of : Fit → List ℕ
 fit_counts_of f =
-    Status·numberOf f.status ∷ f.evaluations.0 ∷ f.iterations.0 ∷ f.quadrature.0 ∷ f.litters ∷ reason_of f.end ∷ mark_at f 0 ∷ mark_at f 1 ∷
+    Status·number_of f.status ∷ f.evaluations.0 ∷ f.iterations.0 ∷ f.quadrature.0 ∷ f.litters ∷ reason_of f.end ∷ mark_at f 0 ∷ mark_at f 1 ∷
     mark_at f 2 ∷ mark_at f 3 ∷ []
 
 unfoldable pub put_fit_of : Fit → List Float → List ℕ → Given

@@ -2,7 +2,7 @@
 use Rattle.std.specs.Prelude.{Bool, false, cond, ◌&&◌, List, [], ◌∷◌, ℕ, eqb, leb, length, get_or, Float}
 use Rattle.std.specs.Float.{nan}
 use Rattle.work.specs.Ended.{number_of, reason_of}
-use Rattle.descent.specs.Status.{number_of as Status·numberOf}
+use Rattle.descent.specs.Status.{number_of as Status·number_of}
 use Rattle.store.specs.Stored.{stored}
 use Rattle.store.specs.Given.{Given, given}
 use Rattle.exposure.specs.declared.request.Request.{Request}
@@ -57,7 +57,7 @@ mark_at f i = cond (get_or f.active i false) 1 0
 -- status, fit evaluations, iterations, passes, rows, reason, a mark for shape and rate on a bound
 unfoldable pub fit_counts_of : Fit → List ℕ
 fit_counts_of f =
-    Status·numberOf f.status ∷ f.evaluations.0 ∷ f.iterations.0 ∷ f.passes.0 ∷ f.rows ∷ reason_of f.end ∷ mark_at f 0 ∷ mark_at f 1 ∷ []
+    Status·number_of f.status ∷ f.evaluations.0 ∷ f.iterations.0 ∷ f.passes.0 ∷ f.rows ∷ reason_of f.end ∷ mark_at f 0 ∷ mark_at f 1 ∷ []
 
 unfoldable pub put_fit_of : Fit → List Float → List ℕ → Given
 put_fit_of f numbers counts = given (number_of f.end) (stored numbers (fit_numbers_of f)) (stored counts (fit_counts_of f))

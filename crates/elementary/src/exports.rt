@@ -1,4 +1,4 @@
-// The same functions for C and Rust, in the static library.
+// The same functions by the names that C has for them: elementary_c exports them.
 ghost use Rattle.std.specs.Prelude.{◌≡◌};
 ghost use Rattle.elementary.specs.Exp.{exp_of};
 ghost use Rattle.elementary.specs.Log.{log_of};

@@ -2,6 +2,3 @@ pub mod Statement
 pub mod Parts
 pub mod Steps
 pub mod Found
-pub mod Near
-pub mod Range
-pub mod Reduced

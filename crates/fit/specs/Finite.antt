@@ -8,7 +8,7 @@ use Rattle.num.specs.F64.{zero·}
 use Rattle.num.specs.Helpers.{clamp_of, is_finite_of}
 use Rattle.root.specs.Root.{plus}
 use Rattle.root.specs.Steps.{sqrt_of}
-use Rattle.root.specs.Rounded.{sqrt_is_root}
+use Rattle.root.proofs.Rounded.{sqrt_is_root}
 use Rattle.order.specs.Places.{not_below_zero}
 use Rattle.order.specs.Order.{le_then_le}
 use Rattle.order.specs.Choices.{clamp_finite}

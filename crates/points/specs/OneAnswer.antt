@@ -42,18 +42,18 @@ use Rattle.objective.specs.Point.{valid_point_of}
 use Rattle.objective.specs.Totals.{index_of, accumulated_of, finite_totals}
 use Rattle.objective.specs.Objective.{ended_of, limited_objective_of, objective_of}
 use Rattle.descent.specs.Status as status
-use Rattle.archive.specs.Layout.{number_of as Archive·numberOf, size_of, shaped_of}
+use Rattle.archive.specs.Layout.{number_of as Archive·number_of, size_of, shaped_of}
 use Rattle.archive_range.specs.Reads.{running_of}
-use Rattle.archive_range.specs.Range.{difference_of, between_of as Archive·betweenOf}
+use Rattle.archive_range.specs.Range.{difference_of, between_of as Archive·between_of}
 use Rattle.archive_check.specs.Check.{check_of}
 use Rattle.archive_write.specs.Archive.{write_of}
 use Rattle.planar.specs.Planar.{among_four_of, widened_of}
 use Rattle.exposure.specs.Rows.{is_positive_of, events_of, valid_rows_of}
-use Rattle.exposure.specs.Request.{valid_shape_of, product_of, admitted_of as Exposure·admittedOf}
+use Rattle.exposure.specs.Request.{valid_shape_of, product_of, admitted_of as Exposure·admitted_of}
 use Rattle.counts.specs.Share.{with_row_of}
-use Rattle.counts.specs.Objective.{evaluated_of as Counts·evaluatedOf, objective_of as Counts·objectiveOf}
-use Rattle.counts_fit.specs.Fit.{fit_of as Counts·fitOf}
-use Rattle.counts_fit.specs.Among.{run_of as Counts·runOf}
+use Rattle.counts.specs.Objective.{evaluated_of as Counts·evaluated_of, objective_of as Counts·objective_of}
+use Rattle.counts_fit.specs.Fit.{fit_of as Counts·fit_of}
+use Rattle.counts_fit.specs.Among.{run_of as Counts·run_of}
 use Rattle.summary.specs.Summary.{extreme_of, no_counts, plus_of, litter_counts_of, counts_of, summary_of}
 use Rattle.request.specs.declared.Request.{Request}
 use Rattle.request.specs.Request.{request_of, up_to_of, admitted_of, start_of, low_of, high_of}
@@ -63,7 +63,7 @@ use Rattle.stepper.specs.Machine.{begin_of, tell_of}
 use Rattle.course.specs.Course.{refusal_of, stopped_of}
 use Rattle.drive.specs.Drive.{driven_of}
 use Rattle.fit.specs.Fit.{fit_of}
-use Rattle.claim.specs.Claim.{number_of as Claim·numberOf, reason_of as Claim·reasonOf, point_in, in_box_of, refusal_of as Claim·refusalOf, judged_of as Claim·judgedOf}
+use Rattle.claim.specs.Claim.{number_of as Claim·number_of, reason_of as Claim·reason_of, point_in, in_box_of, refusal_of as Claim·refusal_of, judged_of as Claim·judged_of}
 use Rattle.claim.specs.Give.{vet_room_of}
 use Rattle.vet.specs.Vet.{vet_of}
 use Rattle.litters.specs.declared.Litter.{Litter}
@@ -170,17 +170,17 @@ of_fit = (one4 _, one2 _, one6 _, one2 _)
 pub of_litters : One3 valid_litter_of × One1 each_valid_of × One1 valid_litters_of × One2 of_group_of × One1 (λ (ls : List Litter). with_rows ls 0 no_rows) × One1 numbers_for_of × One1 handed_on_of
 of_litters = (one3 _, one1 _, one1 _, one2 _, one1 _, one1 _, one1 _)
 
-pub of_archive : One1 Archive·numberOf × One1 size_of × One1 shaped_of × One2 running_of × One2 difference_of × One3 Archive·betweenOf × One1 check_of × One2 write_of
+pub of_archive : One1 Archive·number_of × One1 size_of × One1 shaped_of × One2 running_of × One2 difference_of × One3 Archive·between_of × One1 check_of × One2 write_of
 of_archive = (one1 _, one1 _, one1 _, one2 _, one2 _, one3 _, one1 _, one2 _)
 
-pub of_claim : One1 Claim·numberOf × One1 Claim·reasonOf × One1 point_in × One3 in_box_of × One2 Claim·refusalOf × One6 Claim·judgedOf × One4 vet_room_of × One3 vet_of
+pub of_claim : One1 Claim·number_of × One1 Claim·reason_of × One1 point_in × One3 in_box_of × One2 Claim·refusal_of × One6 Claim·judged_of × One4 vet_room_of × One3 vet_of
 of_claim = (one1 _, one1 _, one1 _, one3 _, one2 _, one6 _, one4 _, one3 _)
 
 -- of counts per exposure: the rows and their checks, the objective, the fit
-pub of_exposure : One2 among_four_of × One1 widened_of × One1 is_positive_of × One1 events_of × One2 valid_rows_of × One1 valid_shape_of × One3 product_of × One3 Exposure·admittedOf
+pub of_exposure : One2 among_four_of × One1 widened_of × One1 is_positive_of × One1 events_of × One2 valid_rows_of × One1 valid_shape_of × One3 product_of × One3 Exposure·admitted_of
 of_exposure = (one2 _, one1 _, one1 _, one1 _, one2 _, one1 _, one3 _, one3 _)
 
-pub of_counts : One5 with_row_of × One4 Counts·evaluatedOf × One4 Counts·objectiveOf × One4 Counts·runOf × One3 Counts·fitOf
+pub of_counts : One5 with_row_of × One4 Counts·evaluated_of × One4 Counts·objective_of × One4 Counts·run_of × One3 Counts·fit_of
 of_counts = (one5 _, one4 _, one4 _, one4 _, one3 _)
 
 -- of lent litters

@@ -13,9 +13,9 @@ ghost use Rattle.archive_host.specs.Host.{given as left, range_given, write_give
 ghost use Rattle.claim.specs.Claim.{claim_from};
 ghost use Rattle.claim.specs.Give.{vetted_given};
 ghost use Rattle.vet.specs.Vet.{vet_of};
-ghost use Rattle.counts.specs.Objective.{objective_of as countsObjective};
-ghost use Rattle.counts_fit.specs.Fit.{fit_of as countsFit};
-ghost use Rattle.counts_host.specs.Host.{objective_given as countsObjectiveGiven, fit_given as countsFitGiven, request_of as countsRequest};
+ghost use Rattle.counts.specs.Objective.{objective_of as counts_objective_of};
+ghost use Rattle.counts_fit.specs.Fit.{fit_of as counts_fit_of};
+ghost use Rattle.counts_host.specs.Host.{objective_given as counts_objective_given, fit_given as counts_fit_given, request_of as counts_request_of};
 ghost use Rattle.objective.specs.Coordinates.{point_of};
 ghost use Rattle.buffers.specs.Buffers.{fit_given, objective_given, summary_given};
 ghost use Rattle.store.specs.Given.{given};
@@ -195,7 +195,7 @@ pub fn probit_counts_objective(
     numbers: &mut [f64],
     counts: &mut [u64],
 ) -> u64
-    ensures counts_after { given result numbers.new counts.new ≡ countsObjectiveGiven (countsObjective shape rate events.now exposures.now) numbers.old counts.old }
+    ensures counts_after { given result numbers.new counts.new ≡ counts_objective_given (counts_objective_of shape rate events.now exposures.now) numbers.old counts.old }
     ensures events_value { (events.now ≡ events.now) × (exposures.now ≡ exposures.now) }
 {
     counts_host::objective_in(shape, rate, events, exposures, numbers, counts)
@@ -212,7 +212,7 @@ pub fn probit_counts_fit(
     numbers: &mut [f64],
     counts: &mut [u64],
 ) -> u64
-    ensures counts_after { given result numbers.new counts.new ≡ countsFitGiven (countsFit (countsRequest bounds.now tolerance evaluations iterations) events.now exposures.now) bounds.now numbers.old counts.old }
+    ensures counts_after { given result numbers.new counts.new ≡ counts_fit_given (counts_fit_of (counts_request_of bounds.now tolerance evaluations iterations) events.now exposures.now) bounds.now numbers.old counts.old }
     ensures bounds_value { (bounds.now ≡ bounds.now) × (events.now ≡ events.now) × (exposures.now ≡ exposures.now) }
 {
     counts_host::fit_in(

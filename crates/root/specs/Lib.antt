@@ -6,7 +6,5 @@ pub mod Units
 pub mod Digits
 pub mod Tests
 pub mod Grid
-pub mod Middle
-pub mod Rounded
 pub mod Unique
 pub mod Examples

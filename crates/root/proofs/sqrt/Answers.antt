@@ -10,7 +10,7 @@ use Rattle.root.specs.Steps.{digits, power, sqrt_of}
 use Rattle.root.specs.Units.{Read, bits_read}
 use Rattle.root.specs.Digits.{scaled, root_finite}
 use Rattle.root.specs.Tests.{between, no_nan, no_nan_bits}
-use Rattle.root.specs.Rounded.{sqrt_is_root}
+use Rattle.root.proofs.Rounded.{sqrt_is_root}
 use Rattle.root.proofs.sqrt.Goals as goal
 
 -- an f64 above zero and below infinity is read as its units

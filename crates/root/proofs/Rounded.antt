@@ -16,7 +16,7 @@ use Rattle.root.specs.Units.{units_is, plus_is, written, bits_read}
 use Rattle.root.specs.Digits.{Scaled, scaled, even_power}
 use Rattle.root.specs.Tests.{zero_not_above, zero_not_below, minus_not_above, minus_below, plus_above, finite_below, between}
 use Rattle.root.specs.Grid.{on_grid}
-use Rattle.root.specs.Middle.{lower, higher}
+use Rattle.root.proofs.Middle.{lower, higher}
 
 -- x in units, times 2^1074, is M · H²
 scale : (m a : ℕ) → m * 2 ^ 54 * (2 ^ a * 2 ^ a) ≡ m * 2 ^ (54 + (a + a))

@@ -19,7 +19,7 @@ use Rattle.series.specs.Enclosure.{lower_rises, upper_falls}
 use Rattle.exponential.specs.Statement.{value, lower, upper, allowed}
 use Rattle.exponential.specs.Found.{Found}
 use Rattle.exponential.specs.Steps.{size, off}
-use Rattle.exponential.specs.Near.{half, enclosed, found, at_most}
+use Rattle.exponential.proofs.Near.{half, enclosed, found, at_most}
 
 -- 0.68 and 1.46
 abbrev pub least : Float
