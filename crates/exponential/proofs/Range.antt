@@ -1,5 +1,5 @@
 -- Within 3/8 of zero the exponential is a number, and lies from 0.68 to 1.46.
-use Rattle.std.specs.Prelude.{◌≡◌, refl, Bool, true, false, not, ℕ, zero, ◌+◌, ◌-◌, ◌*◌, ◌^◌, ◌≤◌, ◌<◌, T, Float}
+use Rattle.std.specs.Prelude.{◌≡◌, refl, Bool, true, false, not, ℕ, ◌+◌, ◌-◌, ◌*◌, ◌^◌, ◌≤◌, ◌<◌, T, Float}
 use Rattle.std.proofs.Common.{ap, ◌∙◌, mul-le-mul_right, mul-one, mul-pos, arith, lit<, lit≤}
 use Rattle.std.proofs.Math.Nat.{pow-succ', pow-zero}
 use Rattle.std.specs.Float.{nan, inf, fin, binary64}
@@ -7,7 +7,6 @@ use Rattle.std.specs.Float.Ieee.{is_nan, le, fits, of_bits}
 use Rattle.std.specs.Float.Ieee.Exact.{HasValue}
 use Rattle.std.specs.Float.Ieee.Order.{le_of_values}
 use Rattle.std.specs.Float.Ieee.Scale.{finite}
-use Rattle.num.specs.F64.{bits}
 use Rattle.num.specs.Helpers.{abs_of}
 use Rattle.root.specs.Root.{units}
 use Rattle.elementary.specs.Exp.{exp_of, three_eighths}
@@ -17,21 +16,10 @@ use Rattle.series.specs.Polynomial.{power}
 use Rattle.series.specs.Exponential.{over, top, lower_at, upper_at, over_pos}
 use Rattle.series.specs.Enclosure.{lower_rises, upper_falls}
 use Rattle.exponential.specs.Statement.{value, lower, upper, allowed}
+use Rattle.exponential.specs.Range.{least, most, Between}
 use Rattle.exponential.specs.Found.{Found}
 use Rattle.exponential.specs.Steps.{size, off}
 use Rattle.exponential.proofs.Near.{half, enclosed, found, at_most}
-
--- 0.68 and 1.46
-abbrev pub least : Float
-least = bits 0x3fe5_c28f_5c28_f5c3
-
-abbrev pub most : Float
-most = bits 0x3ff7_5c28_f5c2_8f5c
-
-pub record Between (y : Float) : Type 0 where
-  pub number : T (not (is_nan y))
-  pub from_least : T (le least y)
-  pub to_most : T (le y most)
 
 -- ---- the two fractions at 3, with no sign of x left open: w is three times u, and 8 v + r as well
 

@@ -2,3 +2,4 @@ pub mod Statement
 pub mod Parts
 pub mod Steps
 pub mod Found
+pub mod Range
