@@ -6,7 +6,8 @@ the k-th derivative in the mean is the integral of the likelihood times the dens
 The trapezoidal rule is halved until two agree to thirty digits.
 
 measure/integral.py [POINTS]. PROBIT_INNER=FILE: that library, none is built.
-Exit status: 1 a gap is above its limit or a point is refused, 2 bad usage, 3 something is missing.
+Exit status: 1 a gap is above its limit or a point is refused, or the library does not build or is not where the variable says, 2 bad usage, 3
+something is missing.
 """
 import ctypes
 import os
@@ -37,15 +38,13 @@ def missing(text):
 
 def library():
     """The static library as one that ctypes can load."""
-    archive = os.environ.get("PROBIT_INNER")
-    if archive:
-        archive = os.path.abspath(archive)
-    os.chdir(os.path.join(os.path.dirname(os.path.abspath(__file__)), ".."))
+    top = os.path.join(os.path.dirname(os.path.abspath(__file__)), "..")
+    found = subprocess.run(["bash", os.path.join(top, "tools/found"), "library", "PROBIT_INNER", "inner"], stdout=subprocess.PIPE, text=True)
+    if found.returncode:
+        sys.exit(found.returncode)
+    archive = found.stdout.strip()
+    os.chdir(top)
     try:
-        if not archive:
-            if subprocess.run(["rt", "staticlib", "inner"]).returncode:
-                missing("'rt staticlib inner' made no library")
-            archive = "target/staticlib/libinner.a"
         os.makedirs("target/measure", exist_ok=True)
         shared = os.path.abspath("target/measure/libinner.so")
         link = ["gcc", "-shared", "-o", shared, "-Wl,--whole-archive", archive, "-Wl,--no-whole-archive"]

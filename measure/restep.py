@@ -9,7 +9,6 @@
 import ast
 import ctypes
 import math
-import os
 import pathlib
 import platform
 import random
@@ -116,7 +115,8 @@ def defined():
     """The constants of the definitions, under the page's names."""
     specs = "".join(path.read_text() for path in sorted((top / "crates/elementary/specs").glob("*.antt")))
     found = re.findall(r"^abbrev pub (\S+) : (?:(Float)\n\1 = bits|ℕ\n\1 =) (\S+)$", specs, re.M)
-    return {name.strip("·").replace("-", "_").upper(): (kind == "", int(b, 0)) for name, kind, b in found}
+    # One that is named as a function ends in `_lem`.
+    return {re.sub("_lem$", "", name.strip("·")).upper(): (kind == "", int(b, 0)) for name, kind, b in found}
 
 
 constants, page = read_page()
@@ -240,19 +240,14 @@ def log1p_points():
 
 
 def library():
-    path = os.environ.get("PROBIT_LIB")
-    if path and not pathlib.Path(path).is_file():
-        failed("PROBIT_LIB names no file: " + path)
     if platform.machine() != "x86_64":
         missing("the library is for x86-64, and this Python cannot load it")
     if not shutil.which("gcc"):
         missing("gcc is not there (Debian: gcc)")
-    if not path:
-        if not shutil.which("rt"):
-            missing("rt is not there, and PROBIT_LIB names no library")
-        path = top / "target/staticlib/libelementary.a"
-        if subprocess.run(["rt", "staticlib", "elementary"], cwd=top).returncode or not path.is_file():
-            failed("'rt staticlib elementary' made no library")
+    found = subprocess.run(["bash", top / "tools/found", "library", "PROBIT_LIB", "elementary"], stdout=subprocess.PIPE, text=True)
+    if found.returncode:
+        sys.exit(found.returncode)
+    path = found.stdout.strip()
     shared = top / "target/measure/libelementary.so"
     shared.parent.mkdir(parents=True, exist_ok=True)
     if subprocess.run(["gcc", "-shared", "-o", shared, "-Wl,--whole-archive", path, "-Wl,--no-whole-archive"]).returncode:

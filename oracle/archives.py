@@ -2,10 +2,9 @@
 # An archive's reader, checker and writer of its own, written from docs/FORMAT.md, held against the library through C:
 # values, counts and every byte.
 # oracle/archives.py SEED NUMBER: that many rounds, or short; fuzz MINUTES [SEED]. PROBIT_TEXT=FILE: the library
-# libprobit.a, else `rt staticlib probit` makes it.
+# libprobit.a, else `rt lib` makes it.
 # Exit status: 1 an answer differs, or something does not build or is not where a variable says, 2 bad usage, 3
 # something is missing.
-import os
 import pathlib
 import random
 import shutil
@@ -346,19 +345,12 @@ def once(calls, r):
 
 
 def program():
-    lib = os.environ.get("PROBIT_TEXT", "")
-    if lib:
-        lib = pathlib.Path(lib).resolve()
-        if not lib.is_file():
-            failed("PROBIT_TEXT names nothing: %s" % os.environ["PROBIT_TEXT"])
     if not shutil.which("gcc"):
         missing("gcc is not there (Debian: gcc)")
-    if not lib:
-        if not shutil.which("rt"):
-            missing("rt is not there, and PROBIT_TEXT names no library")
-        if subprocess.run(["rt", "staticlib", "probit"], cwd=top, stdout=sys.stderr).returncode:
-            failed("'rt staticlib probit' made no library")
-        lib = top / "target/staticlib/libprobit.a"
+    found = subprocess.run(["bash", top / "tools/found", "library", "PROBIT_TEXT", "probit"], stdout=subprocess.PIPE, text=True)
+    if found.returncode:
+        sys.exit(found.returncode)
+    lib = found.stdout.strip()
     out = top / "target/oracle"
     out.mkdir(parents=True, exist_ok=True)
     made = out / "archives"

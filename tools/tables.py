@@ -1,7 +1,7 @@
 #!/usr/bin/env python3
 # Writes the files of crates/tables that have a line for each row, from tools/coefficients.txt: src/ (decimals),
 # specs/ (bits) and proofs/.
-# Run it after a change of the coefficients; then `rt fmt --check` and `rt check tables`.
+# Run it after a change of the coefficients; then, in crates/tables, `rt fmt` and `rt check`.
 import pathlib
 import struct
 
@@ -71,9 +71,10 @@ def constant(name, table, values):
 def source(t, rows):
     yield "// The table of `%s`. %s" % (t.module, t.says)
     yield "// Written by tools/tables.py."
-    yield "ghost use mathlib.Core.Path.{_≡_};"
-    yield "ghost use Rattle·tables·specs.specs.%s.{%sRowOf};" % (t.title, t.module)
+    yield "ghost use Rattle.std.specs.Prelude.{◌≡◌};"
+    yield "ghost use Rattle.tables.specs.%s.{%s_row_of};" % (t.title, t.module)
     yield ""
+    yield "#[derive(Clone, Copy)]"
     yield "pub struct %s {" % t.kind
     yield from ("    pub %s: f64," % f for f in t.fields)
     yield "}"
@@ -93,7 +94,7 @@ def source(t, rows):
 
 def function(t, rows, name):
     yield "pub fn %s(%s: u64) -> %s" % (name, t.index, t.kind)
-    yield "    ensures { λ r. ⌜ r ≡ %sRowOf %s ⌝ }" % (t.module, t.index)
+    yield "    ensures { result ≡ %s_row_of %s }" % (t.module, t.index)
     yield "{"
     yield "    match %s {" % t.index
     yield from ("        %d => ROW%d," % (k, k) for k in range(len(rows)))
@@ -106,42 +107,39 @@ def spec(t, rows):
     record = lambda values: "record { %s }" % "; ".join("%s = %s" % p for p in zip(t.fields, values))
     yield "-- The table of `%s`, each number by its bits. %s" % (t.module, t.says)
     yield "-- Written by tools/tables.py."
-    yield "use mathlib.Core.List.{List, [], _∷_}"
-    yield "use Prim.Native.Nat.{ℕ}"
-    yield "use lib.ListN.{getD}"
-    yield "use Rattle·num.specs.F64.{bits, zero·}"
-    yield "use Rattle·tables·specs.specs.declared.%s.%s.{%s}" % (t.module, t.kind, t.kind)
+    yield "use Rattle.std.specs.Prelude.{List, [], ◌∷◌, ℕ, get_or}"
+    yield "use Rattle.num.specs.F64.{bits, zero·}"
+    yield "use Rattle.tables.specs.declared.%s.%s.{%s}" % (t.module, t.kind, t.kind)
     yield ""
-    yield "unfoldable pub %sRows : List %s" % (t.module, t.kind)
-    yield "%sRows =" % t.module
+    yield "unfoldable pub %s_rows : List %s" % (t.module, t.kind)
+    yield "%s_rows =" % t.module
     yield from ("    %s ∷" % record(map(bits, row)) for row in rows)
     yield "    []"
     yield ""
-    yield "abbrev pub noRow : %s" % t.kind
-    yield "noRow = %s" % record(["zero·"] * len(t.fields))
+    yield "abbrev pub no_row : %s" % t.kind
+    yield "no_row = %s" % record(["zero·"] * len(t.fields))
     yield ""
-    yield "unfoldable pub %sRowOf : ℕ → %s" % (t.module, t.kind)
-    yield "%sRowOf %s = getD %sRows %s noRow" % (t.module, t.index, t.module, t.index)
+    yield "unfoldable pub %s_row_of : ℕ → %s" % (t.module, t.kind)
+    yield "%s_row_of %s = get_or %s_rows %s no_row" % (t.module, t.index, t.module, t.index)
 
 
 def proof(t, rows, name):
-    at = "Rattle·tables·proofs.proofs.%s.%s" % (t.module, name)
-    spec = name.replace("_", "-") + "-spec"
     yield "-- `tables::%s` meets its contract: each arm by its key, the last by `past`." % name
     yield "-- Written by tools/tables.py."
     yield "use mathlib.Core.Path.{refl}"
-    yield "use Rattle·tables·specs.specs.%s.{%sRowOf, %sRows}" % (t.title, t.module, t.module)
-    yield "use Rattle·tables·proofs.proofs.Rows.{at, past}"
-    yield "use %s.Statement.{statement}" % at
-    yield "use %s.Tie as tie" % at
+    yield "use Rattle.tables.specs.%s.{%s_row_of, %s_rows}" % (t.title, t.module, t.module)
+    yield "use Rattle.tables.proofs.Rows.{at, past}"
+    yield "use Rattle.tables.proofs.%s.%s.Goals as goal" % (t.module, name)
+    for k in range(len(rows)):
+        yield from answer(t, "returns-in-%d" % k, "at %s_rows _ _ %d c.in-%d.is refl" % (t.module, k, k))
+    yield from answer(t, "returns-in_default", "past %s_rows _ _ c.in_default.in_default-own.rest" % t.module)
+
+
+def answer(t, goal, by):
     yield ""
-    yield "pub %s : {M : Type 1} → statement M" % spec
-    yield "unfolding %sRowOf %sRows" % (t.module, t.module)
-    yield "%s =" % spec
-    yield "    tie.close"
-    yield "    (tie.spec"
-    yield from ("    (λ c. at %sRows _ _ %d (c .match .keys%d) refl)" % (t.module, k, k + 1) for k in range(len(rows)))
-    yield "    (λ c. past %sRows _ _ (c .match .rest)))" % t.module
+    yield "pub %s : goal.%s" % (goal, goal)
+    yield "unfolding %s_row_of %s_rows" % (t.module, t.module)
+    yield "%s c = %s" % (goal, by)
 
 
 def write(path, lines):
@@ -155,4 +153,4 @@ if __name__ == "__main__":
         write(crate / "src" / (t.module + ".rt"), source(t, rows))
         write(crate / "specs" / (t.title + ".antt"), spec(t, rows))
         for name in t.functions:
-            write(crate / "proofs" / t.module / name / "Proof.antt", proof(t, rows, name))
+            write(crate / "proofs" / t.module / name / "Answers.antt", proof(t, rows, name))

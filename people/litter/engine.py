@@ -188,8 +188,8 @@ def build(here):
     tree = os.path.dirname(here)
     if not (os.path.exists(os.path.join(tree, "crates.txt")) and shutil.which("rt")):
         return
-    print("litterfit: no engine here yet; it is proved and built first, once, in some minutes", file=sys.stderr)
-    make = [os.path.join(here, "engine")] if platform.machine() == "x86_64" else ["rt", "check", "probitfit"]
+    print("litterfit: no engine here yet; it is proved and built first, once, which takes long", file=sys.stderr)
+    make = [os.path.join(here, "engine")] if platform.machine() == "x86_64" else ["bash", os.path.join(tree, "tools", "found"), "executable", "PROBIT_FIT", "probitfit"]
     subprocess.run(make, cwd=tree, stdout=sys.stderr)
 
 
