@@ -115,8 +115,8 @@ def defined():
     """The constants of the definitions, under the page's names."""
     specs = "".join(path.read_text() for path in sorted((top / "crates/elementary/specs").glob("*.antt")))
     found = re.findall(r"^abbrev pub (\S+) : (?:(Float)\n\1 = bits|ℕ\n\1 =) (\S+)$", specs, re.M)
-    # One that is named as a function ends in `_lem`.
-    return {re.sub("_lem$", "", name.strip("·")).upper(): (kind == "", int(b, 0)) for name, kind, b in found}
+    # One that a function shares its name with ends in `_bound`.
+    return {re.sub("_bound$", "", name.strip("·")).upper(): (kind == "", int(b, 0)) for name, kind, b in found}
 
 
 constants, page = read_page()

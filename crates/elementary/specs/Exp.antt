@@ -17,8 +17,8 @@ exp_m = bits 0x4338_0000_0002_0000
 abbrev pub exp_high : Float
 exp_high = bits 0x4338_0000_0003_0040
 
-abbrev pub exp_low_lem : Float
-exp_low_lem = bits 0x4338_0000_0000_f2c0
+abbrev pub exp_low_bound : Float
+exp_low_bound = bits 0x4338_0000_0000_f2c0
 
 -- ln 2 / 64 in two parts
 abbrev pub exp_l1 : Float
@@ -128,10 +128,10 @@ exp_whole w = bits_of w % 262144
 
 -- exp (x + lo) for an x below zero and a far smaller lo
 unfoldable pub exp_low : Float → Float → Float
-exp_low x lo = let w = exp_sum x in cond (lt exp_low_lem w) (exp_finish (exp_whole w) (exp_reduced x w ⊕ lo)) zero·
+exp_low x lo = let w = exp_sum x in cond (lt exp_low_bound w) (exp_finish (exp_whole w) (exp_reduced x w ⊕ lo)) zero·
 
 unfoldable pub exp_below : Float → Float
-exp_below x = let w = exp_sum x in cond (lt exp_low_lem w) (exp_finish (exp_whole w) (exp_reduced x w)) zero·
+exp_below x = let w = exp_sum x in cond (lt exp_low_bound w) (exp_finish (exp_whole w) (exp_reduced x w)) zero·
 
 unfoldable pub exp_above : Float → Float
 exp_above x = let w = exp_sum x in cond (lt w exp_high) (exp_finish (exp_whole w) (exp_reduced x w)) infinity·
@@ -144,7 +144,7 @@ exp_of x = cond (lt x (neg three_eighths)) (exp_below x) (cond (lt three_eighths
 
 -- For many numbers at once, in two parts with the table's row between them: a number's place, which is n + 131072, or 0 past a cut,
 unfoldable pub exp_place : Float → ℕ
-exp_place x = let w = exp_sum x in cond {A = ℕ} (lt exp_low_lem w) (cond {A = ℕ} (lt w exp_high) (exp_whole w) 0) 0
+exp_place x = let w = exp_sum x in cond {A = ℕ} (lt exp_low_bound w) (cond {A = ℕ} (lt w exp_high) (exp_whole w) 0) 0
 
 -- and the exponential by the place m and its row, where `exp_finish` does not go to `exp_far`; the scale is a number at any m
 unfoldable pub exp_by_row : Float → ℕ → ExpRow → Float

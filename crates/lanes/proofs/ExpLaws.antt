@@ -13,7 +13,7 @@ use Rattle.num.specs.F64.{zero·, infinity·}
 use Rattle.num.specs.Filled.{at_place, same_values}
 use Rattle.tables.specs.declared.exp.ExpRow.{ExpRow}
 use Rattle.tables.specs.Exp.{exp_row_of}
-use Rattle.elementary.specs.Exp.{exp_of, exp_below, exp_above, exp_finish, exp_reduced, exp_sum, exp_whole, exp_place, exp_by_row, exp_low_lem, exp_high, three_eighths}
+use Rattle.elementary.specs.Exp.{exp_of, exp_below, exp_above, exp_finish, exp_reduced, exp_sum, exp_whole, exp_place, exp_by_row, exp_low_bound, exp_high, three_eighths}
 use Rattle.lanes.specs.Lanes.{nth, exps_of}
 use Rattle.lanes.specs.ExpParts.{no_exp_row, exp_places, exp_rows_for, exps_by_row, first_e, last_e, exp_outside, exp_chosen, exps_chosen}
 
@@ -34,11 +34,11 @@ passed_high false b n f z l = absurd (omega arith)
 module _ (x : Float) where
   below_by : 1100 ≤ exp_place x / 64 → exp_below x ≡ exp_finish (exp_place x) (exp_reduced x (exp_sum x))
   unfolding exp_below exp_place
-  below_by l = passed_low (lt exp_low_lem (exp_sum x)) (lt (exp_sum x) exp_high) (exp_whole (exp_sum x)) (λ m. exp_finish m (exp_reduced x (exp_sum x))) zero· l
+  below_by l = passed_low (lt exp_low_bound (exp_sum x)) (lt (exp_sum x) exp_high) (exp_whole (exp_sum x)) (λ m. exp_finish m (exp_reduced x (exp_sum x))) zero· l
 
   above_by : 1100 ≤ exp_place x / 64 → exp_above x ≡ exp_finish (exp_place x) (exp_reduced x (exp_sum x))
   unfolding exp_above exp_place
-  above_by l = passed_high (lt exp_low_lem (exp_sum x)) (lt (exp_sum x) exp_high) (exp_whole (exp_sum x)) (λ m. exp_finish m (exp_reduced x (exp_sum x))) infinity· l
+  above_by l = passed_high (lt exp_low_bound (exp_sum x)) (lt (exp_sum x) exp_high) (exp_whole (exp_sum x)) (λ m. exp_finish m (exp_reduced x (exp_sum x))) infinity· l
 
   -- ---- the value by row
   by_finish : (m : ℕ) → 1100 ≤ m / 64 → m / 64 ≤ 3070 → exp_by_row x m (exp_row_of (m % 64)) ≡ exp_finish m (exp_reduced x (exp_sum x))
