@@ -1,20 +1,9 @@
 -- The counts of both groups in an archive: what a litter adds, what running totals say, and what is counted over the first litters.
 use Rattle.std.specs.Prelude.{List, [], ◌∷◌, ℕ, zero, suc, ◌+◌, ◌*◌}
 use Rattle.summary.specs.declared.GroupCounts.{GroupCounts}
-use Rattle.summary.specs.Summary.{no_counts, plus_of, litter_counts_of}
-use Rattle.summary.specs.Most.{Most}
-use Rattle.archive.specs.declared.counts.Counts.{Counts}
+use Rattle.summary.specs.declared.Counts.{Counts}
+use Rattle.summary.specs.Both.{none, both_of, one_of}
 use Rattle.archive.specs.Layout.{word_at, group_in, successes_in, total_in}
-
-abbrev pub none : Counts
-none = record { first = no_counts; second = no_counts }
-
-abbrev pub both_of : Counts → Counts → Counts
-both_of c d = record { first = plus_of c.first d.first; second = plus_of c.second d.second }
-
--- what one litter counts
-unfoldable pub one_of : ℕ → ℕ → ℕ → Counts
-one_of successes total group = record { first = litter_counts_of 0 successes total group; second = litter_counts_of 1 successes total group }
 
 abbrev pub litter_in : List ℕ → ℕ → Counts
 litter_in b i = one_of (successes_in b i) (total_in b i) (group_in b i)
@@ -38,17 +27,3 @@ counts_to b (suc i) = both_of (counts_to b i) (litter_in b i)
 unfoldable pub numbers_from : List ℕ → ℕ → ℕ → List ℕ
 numbers_from b zero i = []
 numbers_from b (suc k) i = successes_in b i ∷ total_in b i ∷ group_in b i ∷ numbers_from b k (suc i)
-
--- ---- how large they can be
-
-pub record BothMost (c : Counts) (m : ℕ) : Type 0 where
-  pub first : Most c.first m
-  pub second : Most c.second m
-
--- at most k numbers of 32 bits together
-abbrev pub BothBelow : Counts → ℕ → Type 0
-BothBelow c k = BothMost c (0xffff_ffff * k)
-
--- so large a count still has room for one litter more
-abbrev pub capacity : ℕ
-capacity = 8192

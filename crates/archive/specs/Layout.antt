@@ -2,19 +2,14 @@
 -- for each litter group, successes, total; for each full 64 litters the running totals, eight words; the trailer, three.
 use Rattle.std.specs.Prelude.{Bool, ◌&&◌, List, ℕ, ◌+◌, ◌-◌, ◌*◌, ◌/◌, leb, eqb, length, get_or}
 use Rattle.litters.specs.Valid.{valid_litter_of}
-use Rattle.archive.specs.declared.Outcome.{Outcome}
-use Rattle.archive.specs.declared.Outcome.TheVariants.{Answered, InvalidInput, Form}
+use Rattle.litters.specs.declared.Litter.{Litter}
+use Rattle.archive.specs.declared.Refused.{Refused}
+use Rattle.archive.specs.declared.Refused.TheVariants.{InvalidInput, Form}
 
--- an outcome's number and, of Form, its line
-abbrev pub number_of : Outcome → ℕ
-number_of Answered = 0
+-- a refusal's number
+abbrev pub number_of : Refused → ℕ
 number_of InvalidInput = 1
-number_of (Form line) = 4
-
-abbrev pub line_of : Outcome → ℕ
-line_of Answered = 0
-line_of InvalidInput = 0
-line_of (Form line) = line
+number_of Form = 4
 
 -- the word at byte p
 unfoldable pub word_at : List ℕ → ℕ → ℕ
@@ -30,6 +25,9 @@ successes_in b i = word_at b (12 * i + 4)
 
 abbrev pub total_in : List ℕ → ℕ → ℕ
 total_in b i = word_at b (12 * i + 8)
+
+abbrev pub record_in : List ℕ → ℕ → Litter
+record_in b i = record { successes = successes_in b i; total = total_in b i; group = group_in b i }
 
 abbrev pub valid_of : List ℕ → ℕ → Bool
 valid_of b i = valid_litter_of (successes_in b i) (total_in b i) (group_in b i)

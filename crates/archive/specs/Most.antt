@@ -3,20 +3,10 @@ use Rattle.std.specs.Prelude.{◌≡◌, true, List}
 use Prim.Native.Nat.{ℕ, zero, suc, ◌+◌, ◌*◌, ◌<◌, ◌≤◌}
 use native.Mathlib.Omega.{arith}
 use Rattle.summary.specs.Summary.{litter_counts_of}
-use Rattle.summary.specs.Most.{Most, none_most, raise, plus_most, valid_most}
+use Rattle.summary.specs.Most.{Most, raise, plus_most, valid_most}
+use Rattle.summary.specs.Both.{one_of, BothMost, none_both}
 use Rattle.archive.specs.Layout.{valid_of, successes_in, total_in, group_in}
-use Rattle.archive.specs.declared.counts.Counts.{Counts}
-use Rattle.archive.specs.Counts.{none, one_of, litter_in, counts_to, BothMost, BothBelow}
-
--- a bound may be raised
-pub raised : (c : Counts) (k m : ℕ) → k ≤ m → BothBelow c k → BothBelow c m
-raised c k m h w = record { first = raise c.first (0xffff_ffff * k) (0xffff_ffff * m) (omega arith) w.first; second = raise c.second (0xffff_ffff * k) (0xffff_ffff * m) (omega arith) w.second }
-
-none_both : (m : ℕ) → BothMost none m
-none_both m = record { first = none_most m; second = none_most m }
-
-pub none_below : (c : Counts) (k : ℕ) → c ≡ none → BothBelow c k
-none_below c k e = rw e (none_both (0xffff_ffff * k))
+use Rattle.archive.specs.Counts.{litter_in, counts_to}
 
 module _ (b : List ℕ) (n : ℕ) (valid : (i : ℕ) → i < n → valid_of b i ≡ true) where
   pub counts_most : (i : ℕ) → i ≤ n → BothMost (counts_to b i) (1000 * i)

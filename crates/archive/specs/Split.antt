@@ -5,14 +5,11 @@ use Rattle.std.proofs.Common.{◌∙◌, add-zero, add_assoc}
 use Prim.Native.Nat.{ℕ, zero, suc, ◌+◌, ◌*◌, ◌/◌}
 use native.Mathlib.Omega.{arith}
 use Rattle.num.specs.Sum.{sum_from}
-use Rattle.summary.specs.Summary.{plus_of, litter_counts_of, counts_from, counts_of}
-use Rattle.archive.specs.declared.counts.Counts.{Counts}
+use Rattle.summary.specs.Summary.{plus_of, litter_counts_of, counts_from, counts_of, counted_of}
+use Rattle.summary.specs.declared.Counts.{Counts}
+use Rattle.summary.specs.Both.{both_of, one_of}
 use Rattle.archive.specs.Layout.{group_in, successes_in, total_in}
-use Rattle.archive.specs.Counts.{both_of, one_of, litter_in, counts_to, numbers_from}
-
--- both groups of a list of litters, as the summary counts them
-unfoldable pub counted_of : List ℕ → Counts
-counted_of ls = record { first = counts_of ls 0; second = counts_of ls 1 }
+use Rattle.archive.specs.Counts.{litter_in, counts_to, numbers_from}
 
 module _ (s t g : ℕ) (ls : List ℕ) where
   three : (i : ℕ) → 3 * (i + 1) ≡ suc (suc (suc (3 * i)))

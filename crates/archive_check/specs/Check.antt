@@ -2,7 +2,7 @@
 use Rattle.std.specs.Prelude.{Bool, true, ◌&&◌, cond, List, ℕ, suc, ◌-◌, ◌/◌, ◌%◌, eqb}
 use Rattle.num.specs.Every.{every_from}
 use Rattle.summary.specs.declared.GroupCounts.{GroupCounts}
-use Rattle.archive.specs.declared.counts.Counts.{Counts}
+use Rattle.summary.specs.declared.Counts.{Counts}
 use Rattle.archive.specs.Layout.{valid_of, count_in, shaped_of}
 use Rattle.archive.specs.Counts.{totals_in, counts_to}
 

@@ -9,7 +9,7 @@ use borrow.Table.Steps.{cases}
 use Rattle.num.specs.Both.{and_left, and_right, and_both, and_four}
 use Rattle.num.specs.Every.{every_from, each_passes, all_pass}
 use Rattle.summary.specs.declared.GroupCounts.{GroupCounts}
-use Rattle.archive.specs.declared.counts.Counts.{Counts}
+use Rattle.summary.specs.declared.Counts.{Counts}
 use Rattle.archive.specs.Layout.{valid_of, count_in, shaped_of}
 use Rattle.archive.specs.Shaped.{shape_holds, shape_is}
 use Rattle.archive.specs.Counts.{totals_in, counts_to}

@@ -1,5 +1,5 @@
 -- For an archive that is right, a range is the summary counted over all its litters; an empty one is zeros.
-use Rattle.std.specs.Prelude.{◌≡◌, true, List, [], ◌∷◌, ◌++◌}
+use Rattle.std.specs.Prelude.{◌≡◌, true, List, [], ◌∷◌, ◌++◌, Result, Ok}
 use Rattle.std.proofs.Math.Path.{refl, ap}
 use Rattle.std.proofs.Common.{sym, ◌∙◌, add-zero, add-one}
 use Prim.Native.Nat.{ℕ, zero, suc, ◌+◌, ◌-◌, ◌*◌, ◌/◌, ◌%◌, ◌≤◌}
@@ -10,16 +10,16 @@ use Rattle.num.specs.Both.{and_both}
 use Rattle.num.specs.Sum.{sum_from}
 use Rattle.summary.specs.declared.GroupCounts.{GroupCounts}
 use Rattle.summary.specs.Most.{Most}
-use Rattle.summary.specs.Summary.{plus_of, counts_of}
-use Rattle.archive.specs.declared.Outcome.TheVariants.{Answered}
-use Rattle.archive.specs.declared.counts.Counts.{Counts}
+use Rattle.summary.specs.Summary.{plus_of, counts_of, counted_of}
+use Rattle.summary.specs.declared.Counts.{Counts}
+use Rattle.summary.specs.Both.{none, both_of, BothMost}
+use Rattle.archive.specs.declared.Refused.{Refused}
 use Rattle.archive.specs.Layout.{valid_of, count_in}
 use Rattle.archive.specs.Shaped.{shape_is}
-use Rattle.archive.specs.Counts.{none, both_of, counts_to, numbers_from, BothMost}
+use Rattle.archive.specs.Counts.{counts_to, numbers_from}
 use Rattle.archive.specs.Right.{Right}
 use Rattle.archive.specs.Most.{counts_most}
-use Rattle.archive.specs.Split.{counted_of, split}
-use Rattle.archive_range.specs.declared.Range.{Range}
+use Rattle.archive.specs.Split.{split}
 use Rattle.archive_range.specs.Reads.{Read, litters_from, last_total, reads_of, read_in, summed, valid_reads_of, running_of}
 use Rattle.archive_range.specs.Range.{group_fits_of, fits_of, group_within_of, within_of, less_of, difference_of, judged_of, between_of}
 
@@ -107,8 +107,8 @@ back x y = omega arith
 less : (a d : Counts) → less_of a (both_of a d) ≡ d
 less a d = simp back
 
-abbrev pub answered : Counts → Range
-answered c = record { end = Answered; counts = c }
+abbrev pub answered : Counts → Result Counts Refused
+answered c = Ok c
 
 differs : (a c d : Counts) → c ≡ both_of a d → fits_of a ≡ true → fits_of c ≡ true → difference_of a c ≡ answered d
 unfolding difference_of
@@ -120,7 +120,7 @@ differs a c d e f g =
 -- ---- the range
 
 -- a range of a right archive: what the summary counts over its litters
-abbrev pub counted_range : List ℕ → ℕ → ℕ → Range
+abbrev pub counted_range : List ℕ → ℕ → ℕ → Result Counts Refused
 counted_range b from to = answered (counted_of (numbers_from b (to - from) from))
 
 module _ (b : List ℕ) (r : Right b) where

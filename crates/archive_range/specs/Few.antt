@@ -2,8 +2,8 @@
 -- same running summary.
 use Rattle.std.specs.Prelude.{◌≡◌, refl, List, [], ◌∷◌, ◌++◌, ℕ, zero, suc, ◌+◌, ◌*◌, ◌/◌, ◌%◌, ◌≤◌}
 use Rattle.std.proofs.Common.{arith}
-use Rattle.archive.specs.declared.counts.Counts.{Counts}
-use Rattle.archive.specs.Counts.{none, both_of}
+use Rattle.summary.specs.declared.Counts.{Counts}
+use Rattle.summary.specs.Both.{none, both_of}
 use Rattle.archive_range.specs.Reads.{Read, total, litter, litters_from, last_total, reads_of, read_in, is_valid, summed, valid_reads_of, running_of}
 
 -- how many of the reads are totals, and how many litters

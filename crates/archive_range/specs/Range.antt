@@ -1,16 +1,11 @@
 -- The counts of both groups from one position up to but not including another: the difference of two running summaries.
-use Rattle.std.specs.Prelude.{Bool, ◌&&◌, cond, List, ℕ, ◌-◌, ◌≤◌, leb}
+use Rattle.std.specs.Prelude.{Bool, ◌&&◌, cond, List, ℕ, ◌-◌, leb, Result, Ok, Err}
 use Rattle.summary.specs.declared.GroupCounts.{GroupCounts}
-use Rattle.archive.specs.declared.Outcome.{Outcome}
-use Rattle.archive.specs.declared.Outcome.TheVariants.{Answered, InvalidInput, Form}
-use Rattle.archive.specs.declared.counts.Counts.{Counts}
+use Rattle.summary.specs.declared.Counts.{Counts}
+use Rattle.archive.specs.declared.Refused.{Refused}
+use Rattle.archive.specs.declared.Refused.TheVariants.{InvalidInput, Form}
 use Rattle.archive.specs.Layout.{count_in, shaped_of}
-use Rattle.archive.specs.Counts.{none}
-use Rattle.archive_range.specs.declared.Range.{Range}
 use Rattle.archive_range.specs.Reads.{reads_of, valid_reads_of, running_of}
-
-abbrev pub refused_of : Outcome → Range
-refused_of o = record { end = o; counts = none }
 
 -- a group's sums within 32 bits. Sums only grow, so if the last is, all before it are.
 unfoldable pub group_fits_of : GroupCounts → Bool
@@ -39,22 +34,15 @@ abbrev pub less_of : Counts → Counts → Counts
 less_of a b = record { first = group_less_of a.first b.first; second = group_less_of a.second b.second }
 
 -- from a up to b: a sum past 32 bits or a negative difference is Form
-unfoldable pub difference_of : Counts → Counts → Range
-difference_of a b = cond ((fits_of a && fits_of b) && within_of a b) (record { end = Answered; counts = less_of a b }) (refused_of (Form 0))
+unfoldable pub difference_of : Counts → Counts → Result Counts Refused
+difference_of a b = cond ((fits_of a && fits_of b) && within_of a b) (Ok (less_of a b)) (Err Form)
 
 abbrev pub in_order : ℕ → ℕ → ℕ → Bool
 in_order from to n = leb from to && leb to n
 
 -- Every litter that either running summary reads is looked at before either is summed.
-unfoldable pub judged_of : List ℕ → ℕ → ℕ → Range
-judged_of b from to = cond (valid_reads_of b (reads_of from) && valid_reads_of b (reads_of to)) (difference_of (running_of b from) (running_of b to)) (refused_of InvalidInput)
+unfoldable pub judged_of : List ℕ → ℕ → ℕ → Result Counts Refused
+judged_of b from to = cond (valid_reads_of b (reads_of from) && valid_reads_of b (reads_of to)) (difference_of (running_of b from) (running_of b to)) (Err InvalidInput)
 
-unfoldable pub between_of : List ℕ → ℕ → ℕ → Range
-between_of b from to = cond (shaped_of b) (cond (in_order from to (count_in b)) (judged_of b from to) (refused_of InvalidInput)) (refused_of (Form 0))
-
--- two groups' counts whose differences are not negative
-pub record Under (a b : GroupCounts) : Type 0 where
-  pub litters : a.litters ≤ b.litters
-  pub successes : a.successes ≤ b.successes
-  pub trials : a.trials ≤ b.trials
-  pub extreme : a.extreme ≤ b.extreme
+unfoldable pub between_of : List ℕ → ℕ → ℕ → Result Counts Refused
+between_of b from to = cond (shaped_of b) (cond (in_order from to (count_in b)) (judged_of b from to) (Err InvalidInput)) (Err Form)

@@ -1,9 +1,10 @@
 -- The running summary at a position, as the list of what is read for it: the last totals at or before the position, where there are any,
 -- and each litter since. It is a sum over that list, and so reads nothing else.
 use Rattle.std.specs.Prelude.{Bool, true, ◌&&◌, List, [], ◌∷◌, ◌++◌, ℕ, zero, suc, ◌+◌, ◌*◌, ◌/◌, ◌%◌}
-use Rattle.archive.specs.declared.counts.Counts.{Counts}
+use Rattle.summary.specs.declared.Counts.{Counts}
+use Rattle.summary.specs.Both.{none, both_of}
 use Rattle.archive.specs.Layout.{valid_of, count_in}
-use Rattle.archive.specs.Counts.{none, both_of, litter_in, totals_in}
+use Rattle.archive.specs.Counts.{litter_in, totals_in}
 
 -- totals and litters, counted from 0
 pub data Read : Type 0 where

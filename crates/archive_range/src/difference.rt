@@ -1,76 +1,54 @@
 // One running summary less another: sums past 32 bits, and a difference that would be negative, are Form.
-ghost use Rattle.std.specs.Prelude.{◌≡◌};
-ghost use Rattle.archive_range.specs.Range.{group_fits_of, fits_of, group_within_of, within_of, group_less_of, less_of, difference_of, Under};
+ghost use Rattle.std.specs.Prelude.{◌≡◌, cond, Some, None};
+ghost use Rattle.archive_range.specs.Range.{group_fits_of, fits_of, group_within_of, within_of, group_less_of, less_of, difference_of};
 
-use crate::Range;
-use archive::Outcome;
-use archive::counts::Counts;
-use summary::GroupCounts;
+use archive::Refused;
+use summary::{Counts, GroupCounts};
 
+#[tactic(auto, unfolding(crate::specs::Range::group_fits_of))]
 fn group_fits(c: GroupCounts) -> bool
     ensures { result ≡ group_fits_of c }
 {
-    num::both(
-        num::both(c.litters <= 0xffff_ffff, c.successes <= 0xffff_ffff),
-        num::both(c.trials <= 0xffff_ffff, c.extreme <= 0xffff_ffff),
-    )
+    let most = u64::from(u32::MAX);
+    c.litters <= most && c.successes <= most && c.trials <= most && c.extreme <= most
 }
 
+#[tactic(auto, unfolding(crate::specs::Range::fits_of))]
 fn fits(c: Counts) -> bool
     ensures { result ≡ fits_of c }
 {
-    num::both(group_fits(c.first), group_fits(c.second))
+    group_fits(c.first) && group_fits(c.second)
 }
 
-fn group_within(a: GroupCounts, b: GroupCounts) -> bool
-    ensures { result ≡ group_within_of a b }
+// From a up to b; none where a difference would be negative.
+#[tactic(auto, unfolding(crate::specs::Range::group_within_of))]
+fn group_less(a: GroupCounts, b: GroupCounts) -> Option<GroupCounts>
+    ensures { result ≡ cond (group_within_of a b) (Some (group_less_of a b)) None }
 {
-    num::both(
-        num::both(a.litters <= b.litters, a.successes <= b.successes),
-        num::both(a.trials <= b.trials, a.extreme <= b.extreme),
-    )
+    Some(GroupCounts {
+        litters: b.litters.checked_sub(a.litters)?,
+        successes: b.successes.checked_sub(a.successes)?,
+        trials: b.trials.checked_sub(a.trials)?,
+        extreme: b.extreme.checked_sub(a.extreme)?,
+    })
 }
 
-fn within(a: Counts, b: Counts) -> bool
-    ensures { result ≡ within_of a b }
+#[tactic(auto, unfolding(crate::specs::Range::within_of))]
+fn less(a: Counts, b: Counts) -> Option<Counts>
+    ensures { result ≡ cond (within_of a b) (Some (less_of a b)) None }
 {
-    num::both(
-        group_within(a.first, b.first),
-        group_within(a.second, b.second),
-    )
+    Some(Counts {
+        first: group_less(a.first, b.first)?,
+        second: group_less(a.second, b.second)?,
+    })
 }
 
-fn group_less(a: GroupCounts, b: GroupCounts) -> GroupCounts
-    requires { Under a b }
-    ensures { result ≡ group_less_of a b }
-{
-    GroupCounts {
-        litters: b.litters - a.litters,
-        successes: b.successes - a.successes,
-        trials: b.trials - a.trials,
-        extreme: b.extreme - a.extreme,
-    }
-}
-
-fn less(a: Counts, b: Counts) -> Counts
-    requires { Under a.first b.first × Under a.second b.second }
-    ensures { result ≡ less_of a b }
-{
-    let first = group_less(a.first, b.first);
-    let second = group_less(a.second, b.second);
-    Counts { first, second }
-}
-
-pub fn difference(a: Counts, b: Counts) -> Range
+#[tactic(auto, unfolding(crate::specs::Range::difference_of))]
+pub fn difference(a: Counts, b: Counts) -> Result<Counts, Refused>
     ensures { result ≡ difference_of a b }
 {
-    let small = num::both(fits(a), fits(b));
-    if !num::both(small, within(a, b)) {
-        return crate::refused(Outcome::Form(0));
+    if !(fits(a) && fits(b)) {
+        return Err(Refused::Form);
     }
-    let counts = less(a, b);
-    Range {
-        end: Outcome::Answered,
-        counts,
-    }
+    less(a, b).ok_or(Refused::Form)
 }

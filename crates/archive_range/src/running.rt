@@ -1,47 +1,45 @@
 // The running summary at a position: the totals before it, if there are any, and the litters since.
 ghost use Rattle.std.specs.Prelude.{◌≡◌, ◌≤◌, ◌/◌};
 ghost use Rattle.archive.specs.Layout.{count_in};
-ghost use Rattle.archive.specs.Shaped.{Shaped};
-ghost use Rattle.archive.specs.Counts.{none, BothBelow};
+ghost use Rattle.summary.specs.Both.{none, BothBelow};
 ghost use Rattle.archive_range.specs.Reads.{last_total, reads_of, summed, valid_reads_of, running_of};
 
-use archive::counts::Counts;
+use archive::Archive;
+use summary::Counts;
 
-pub fn valid_reads(b: &[u8], p: usize) -> bool
-    requires { Shaped b.now × (p ≤ count_in b.now) }
-    ensures { result ≡ valid_reads_of b.now (reads_of p) }
+pub fn valid_reads(archive: &Archive, p: usize) -> bool
+    requires { p ≤ count_in archive.now.bytes.now }
+    ensures { result ≡ valid_reads_of archive.now.bytes.now (reads_of p) }
 {
-    let mut k = 64 * (p / 64);
-    while k < p {
-        if !archive::valid(b, k) {
+    // By number: a litter lies at a place reckoned from it.
+    for k in 64 * (p / 64)..p {
+        if !archive.valid(k) {
             return false;
         }
-        k += 1;
     }
     true
 }
 
-fn last_total(b: &[u8], p: usize) -> Counts
-    requires { Shaped b.now × (p ≤ count_in b.now) }
-    ensures { (result ≡ summed b.now none (last_total (p / 64))) × BothBelow result 1 }
+fn last_total(archive: &Archive, p: usize) -> Counts
+    requires { p ≤ count_in archive.now.bytes.now }
+    ensures value { result ≡ summed archive.now.bytes.now none (last_total (p / 64)) }
+    ensures below { BothBelow result 1 }
 {
-    let q = p / 64;
-    if q == 0 {
-        return archive::counts::none();
+    let full = p / 64;
+    if full == 0 {
+        return Counts::default();
     }
-    archive::counts::totals(b, 12 * archive::count(b) + 32 * (q - 1))
+    archive.totals(full)
 }
 
-pub fn running(b: &[u8], p: usize) -> Counts
-    requires { Shaped b.now × (p ≤ count_in b.now) }
-    ensures { result ≡ running_of b.now p }
+pub fn running(archive: &Archive, p: usize) -> Counts
+    requires { p ≤ count_in archive.now.bytes.now }
+    ensures { result ≡ running_of archive.now.bytes.now p }
 {
-    let mut c = last_total(b, p);
-    let mut i = 64 * (p / 64);
-    while i < p {
-        let d = archive::counts::after(c, b, i);
-        c = d;
-        i += 1;
+    let mut counts = last_total(archive, p);
+    // By number, as above.
+    for i in 64 * (p / 64)..p {
+        counts = counts.with(archive.litter(i));
     }
-    c
+    counts
 }

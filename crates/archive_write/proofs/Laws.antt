@@ -1,46 +1,32 @@
 -- The laws of the writer's tests, stores and loops.
 use mathlib.Core.Path.{◌≡◌, refl, sym, ap, ◌∙◌}
 use mathlib.Core.Bool.{Bool, true, false, ◌&&◌}
-use mathlib.Core.List.{List, ◌++◌}
-use Prim.Native.Nat.{ℕ, suc, ◌+◌, ◌*◌, ◌/◌, ◌%◌, ◌<◌, ◌≤◌}
+use mathlib.Core.List.{List, [], ◌∷◌, ◌++◌}
+use Prim.Native.Nat.{ℕ, suc, ◌+◌, ◌*◌, ◌/◌, ◌%◌, ◌≤◌}
 use native.Mathlib.Numerals.{add-one}
 use native.Mathlib.Omega.{arith}
-use borrow.Author.Tests.{le-leb, lt-leb, leb-true, eq-eqb, ne_eqb}
+use borrow.Author.Tests.{leb-true}
 use lib.Dec.{leb, eqb}
-use lib.ListN.{length, set}
-use lib.Seq.{sets, length-sets}
+use lib.ListN.{length, take, drop}
+use borrow.Rule.Slice.PartMut.{put_mid}
+use Rattle.std.proofs.Common.{append_assoc}
+use Rattle.std.proofs.lemmas.List.{drop-drop}
+use Rattle.std.proofs.lemmas.List.Edits.{sets-eq}
+use lib.Seq.{sets}
 use Rattle.num.specs.Both.{and_left, and_right}
 use Rattle.litters.specs.Litters.{count_of, successes_at, total_at, group_at}
 use Rattle.litters.specs.Valid.{each_valid_of}
 use Rattle.summary.specs.declared.GroupCounts.{GroupCounts}
 use Rattle.store.specs.Stored.{stored}
-use Rattle.archive.specs.declared.Outcome.TheVariants.{Answered, InvalidInput}
-use Rattle.archive.specs.declared.counts.Counts.{Counts}
+use Rattle.std.specs.Prelude.{Ok, Err}
+use Rattle.summary.specs.declared.Counts.{Counts}
+use Rattle.summary.specs.Both.{none, both_of, one_of, BothBelow, raised}
+use Rattle.archive.specs.declared.Refused.TheVariants.{InvalidInput}
 use Rattle.archive.specs.Layout.{size_of}
-use Rattle.archive.specs.Counts.{none, both_of, one_of, BothBelow}
-use Rattle.archive.specs.Most.{raised}
 use Rattle.archive_write.specs.Archive.{word_bytes, litter_bytes, group_bytes, counts_bytes, trailer_bytes, litters_to, counted_to, totals_to, archive_of, is_writable_of, written, write_of}
 use Rattle.archive_write.specs.Puts.{next, word_long, group_long, litters_long, totals_long, archive_long, puts_stored}
 
 -- ---- the tests
-
-module _ (ls : List ℕ) (room : ℕ) where
-  pub over : (length ls % 3 ≡ 0 → ⊥) → false ≡ is_writable_of ls room
-  unfolding is_writable_of
-  over h = rw (ne_eqb (length ls % 3) 0 h)
-
-  module _ (h : length ls % 3 ≡ 0) where
-    pub too_many : 4096 < length ls / 3 → false ≡ is_writable_of ls room
-    unfolding is_writable_of
-    too_many l = rw (eq-eqb (length ls % 3) 0 h, lt-leb (length ls / 3) 4096 l)
-
-    pub no_room : (m : ℕ) → length ls / 3 ≤ 4096 → m ≡ size_of (length ls / 3) → room < m → false ≡ is_writable_of ls room
-    unfolding is_writable_of
-    no_room m l e k = rw (eq-eqb (length ls % 3) 0 h, le-leb (length ls / 3) 4096 l, ← e, lt-leb m room k)
-
-    pub all_there : (m : ℕ) (r : Bool) → length ls / 3 ≤ 4096 → m ≡ size_of (length ls / 3) → m ≤ room → r ≡ each_valid_of ls → r ≡ is_writable_of ls room
-    unfolding is_writable_of
-    all_there m r l e k f = rw (eq-eqb (length ls % 3) 0 h, le-leb (length ls / 3) 4096 l, ← e, le-leb m room k) f
 
 -- what is writable has few litters and room
 module _ (ls : List ℕ) (room : ℕ) (t : Bool) (e : t ≡ is_writable_of ls room) (f : t ≡ true) where
@@ -60,13 +46,13 @@ module _ (ls : List ℕ) (room : ℕ) (t : Bool) (e : t ≡ is_writable_of ls ro
 
 -- ---- the stores
 
-pub word_put : (l m : List ℕ) (p x : ℕ) → m ≡ set (set (set (set l p (x % 256)) (p + 1) (x / 256 % 256)) (p + 2) (x / 256 / 256 % 256)) (p + 3) (x / 256 / 256 / 256 % 256) → m ≡ sets l p (word_bytes x)
+pub word_put : (l m bs high : List ℕ) (p k x : ℕ) → p + 4 ≤ length l → k ≡ 4 → bs ≡ x % 256 ∷ x / 256 % 256 ∷ x / 65536 % 256 ∷ x / 16777216 % 256 ∷ high → m ≡ take 4 bs → put_mid p k l m ≡ sets l p (word_bytes x)
 unfolding word_bytes
-word_put l m p x h =
-    let e : p + 1 ≡ suc p = omega arith in
-    let f : p + 2 ≡ suc (suc p) = omega arith in
-    let g : p + 3 ≡ suc (suc (suc p)) = omega arith in
-    rw (e, f, g) at h
+word_put l m bs high p k x h e b f =
+    let u : x / 256 / 256 ≡ x / 65536 = omega arith in
+    let v : x / 65536 / 256 ≡ x / 16777216 = omega arith in
+    let four : List ℕ = x % 256 ∷ x / 256 % 256 ∷ x / 65536 % 256 ∷ x / 16777216 % 256 ∷ [] in
+    rw (e, f, b, u, v, drop-drop) (sym (sets-eq four l p h ∙ append_assoc (take p l) four (drop (p + 4) l)))
 
 module _ (l a b m : List ℕ) (p x y z : ℕ) (ea : a ≡ sets l p (word_bytes x)) (eb : b ≡ sets a (p + 4) (word_bytes y)) (em : m ≡ sets b (p + 8) (word_bytes z)) where
   pub three_words : m ≡ sets l p (word_bytes x ++ (word_bytes y ++ word_bytes z))
@@ -103,9 +89,6 @@ pub litters_turn : (ls l a m : List ℕ) (i : ℕ) → a ≡ sets l 0 (litters_t
 unfolding litters_to
 litters_turn ls l a m i ea em = rw (add-one i) (next l a m 0 (12 * i) (litters_to ls i) (litter_bytes (successes_at ls i) (total_at ls i) (group_at ls i)) ea (omega (arith, litters_long ls i)) em)
 
-pub litters_done : (ls l a : List ℕ) (n i : ℕ) → n ≡ length ls / 3 → i ≤ n → n ≤ i → a ≡ sets l 0 (litters_to ls i) → a ≡ sets l 0 (litters_to ls (count_of ls))
-litters_done ls l a n i e h k ea = let f : length ls / 3 ≡ i = omega arith in rw f ea
-
 pub counted_begin : (ls : List ℕ) (c : Counts) → c ≡ none → c ≡ counted_to ls (64 * 0)
 unfolding counted_to
 counted_begin ls c e = e
@@ -113,16 +96,6 @@ counted_begin ls c e = e
 pub counted_turn : (ls : List ℕ) (m : ℕ) (c d : Counts) → c ≡ counted_to ls m → d ≡ both_of c (one_of (successes_at ls m) (total_at ls m) (group_at ls m)) → d ≡ counted_to ls (m + 1)
 unfolding counted_to
 counted_turn ls m c d ec ed = rw (add-one m) (rw (← ec) ed)
-
-pub counted_done : (ls : List ℕ) (c : Counts) (i m : ℕ) → c ≡ counted_to ls m → m ≤ i + 64 → i + 64 ≤ m → c ≡ counted_to ls (i + 64)
-counted_done ls c i m e h k = let f : i + 64 ≡ m = omega arith in rw f e
-
-pub below_done : (c : Counts) (i m : ℕ) → BothBelow c (m + 1) → m ≤ i + 64 → BothBelow c (i + 64 + 1)
-below_done c i m w h = raised c (m + 1) (i + 64 + 1) (omega arith) w
-
--- a run of stores keeps the length
-pub long_sets : (l a m : List ℕ) (p : ℕ) (vs : List ℕ) → m ≡ sets a p vs → length a ≡ length l → length m ≡ length l
-long_sets l a m p vs e h = ap length e ∙ (length-sets a p vs ∙ h)
 
 pub totals_begin : (ls l : List ℕ) (p : ℕ) → l ≡ sets l p (totals_to ls 0)
 unfolding totals_to
@@ -141,9 +114,6 @@ counted_next ls j d e = let f : 64 * j + 64 ≡ 64 * (j + 1) = omega arith in e 
 pub below_next : (d : Counts) (j : ℕ) → BothBelow d (64 * j + 64 + 1) → BothBelow d (64 * (j + 1) + 1)
 below_next d j w = raised d (64 * j + 64 + 1) (64 * (j + 1) + 1) (omega arith) w
 
-pub totals_done : (ls l a : List ℕ) (n j : ℕ) → n ≡ length ls / 3 → j ≤ n / 64 → n / 64 ≤ j → a ≡ sets l (12 * n) (totals_to ls j) → a ≡ sets l (12 * count_of ls) (totals_to ls (count_of ls / 64))
-totals_done ls l a n j e h k ea = let f : length ls / 3 / 64 ≡ j = omega arith in rw (f, ← e) ea
-
 -- ---- the whole
 
 pub archive_put : (ls l a b m : List ℕ) → 12 * (length ls / 3) + 32 * (length ls / 3 / 64) + 12 ≤ length l → a ≡ sets l 0 (litters_to ls (count_of ls)) → b ≡ sets a (12 * count_of ls) (totals_to ls (count_of ls / 64)) → m ≡ sets b (12 * count_of ls + 32 * (count_of ls / 64)) (trailer_bytes (count_of ls)) → m ≡ stored l (archive_of ls)
@@ -154,10 +124,10 @@ archive_put ls l a b m h ea eb em =
     let fits : length (archive_of ls) ≤ length l = rw (archive_long ls) h in
     z ∙ puts_stored l (archive_of ls) fits
 
-pub write_done : (ls l m : List ℕ) (t : Bool) → t ≡ is_writable_of ls (length l) → t ≡ true → m ≡ stored l (archive_of ls) → written Answered m ≡ write_of ls l
+pub write_done : (ls l m : List ℕ) (t : Bool) → t ≡ is_writable_of ls (length l) → t ≡ true → m ≡ stored l (archive_of ls) → written (Ok tt) m ≡ write_of ls l
 unfolding write_of
-write_done ls l m t e f em = rw (← e, f) (ap (written Answered) em)
+write_done ls l m t e f em = rw (← e, f) (ap (written (Ok tt)) em)
 
-pub not_written : (ls l : List ℕ) (t : Bool) → t ≡ is_writable_of ls (length l) → t ≡ false → written InvalidInput l ≡ write_of ls l
+pub not_written : (ls l : List ℕ) (t : Bool) → t ≡ is_writable_of ls (length l) → t ≡ false → written (Err InvalidInput) l ≡ write_of ls l
 unfolding write_of
 not_written ls l t e f = rw (← e, f)

@@ -1,14 +1,14 @@
 -- The archive of a list of litters, byte by byte, and what the writer leaves in a buffer.
-use Rattle.std.specs.Prelude.{Bool, ◌&&◌, cond, List, [], ◌∷◌, ◌++◌, ℕ, zero, suc, ◌+◌, ◌*◌, ◌/◌, ◌%◌, leb, eqb, length}
+use Rattle.std.specs.Prelude.{Bool, ◌&&◌, cond, List, [], ◌∷◌, ◌++◌, ℕ, zero, suc, ◌*◌, ◌/◌, ◌%◌, leb, eqb, length, Result, Ok, Err}
 use Rattle.litters.specs.Litters.{count_of, successes_at, total_at, group_at}
 use Rattle.litters.specs.Valid.{each_valid_of}
 use Rattle.summary.specs.declared.GroupCounts.{GroupCounts}
 use Rattle.store.specs.Stored.{stored}
-use Rattle.archive.specs.declared.Outcome.{Outcome}
-use Rattle.archive.specs.declared.Outcome.TheVariants.{Answered, InvalidInput}
-use Rattle.archive.specs.declared.counts.Counts.{Counts}
+use Rattle.summary.specs.declared.Counts.{Counts}
+use Rattle.summary.specs.Both.{none, both_of, one_of}
+use Rattle.archive.specs.declared.Refused.{Refused}
+use Rattle.archive.specs.declared.Refused.TheVariants.{InvalidInput}
 use Rattle.archive.specs.Layout.{size_of}
-use Rattle.archive.specs.Counts.{none, both_of, one_of}
 
 -- a word's four bytes, the lowest first
 unfoldable pub word_bytes : ℕ → List ℕ
@@ -55,14 +55,14 @@ archive_of ls = litters_to ls (count_of ls) ++ (totals_to ls (count_of ls / 64) 
 unfoldable pub is_writable_of : List ℕ → ℕ → Bool
 is_writable_of ls room = eqb (length ls % 3) 0 && (leb (count_of ls) 4096 && (leb (size_of (count_of ls)) room && each_valid_of ls))
 
--- a call's outcome, and what its buffer holds after it
+-- what a call answers, and what its buffer holds after it
 pub record Written : Type 0 where
-  pub end : Outcome
+  pub answer : Result (Unit {0}) Refused
   pub out : List ℕ
 
-abbrev pub written : Outcome → List ℕ → Written
-written end out = record { end = end; out = out }
+abbrev pub written : Result (Unit {0}) Refused → List ℕ → Written
+written answer out = record { answer = answer; out = out }
 
 -- the archive, and after it the bytes that stood there; or nothing
 unfoldable pub write_of : List ℕ → List ℕ → Written
-write_of ls out = cond (is_writable_of ls (length out)) (written Answered (stored out (archive_of ls))) (written InvalidInput out)
+write_of ls out = cond (is_writable_of ls (length out)) (written (Ok tt) (stored out (archive_of ls))) (written (Err InvalidInput) out)

@@ -5,7 +5,7 @@ use Rattle.std.proofs.lemmas.List.Edits.{sets, sets-eq}
 use Rattle.litters.specs.Litters.{count_of, successes_at, total_at, group_at}
 use Rattle.summary.specs.declared.GroupCounts.{GroupCounts}
 use Rattle.store.specs.Stored.{stored}
-use Rattle.archive.specs.declared.counts.Counts.{Counts}
+use Rattle.summary.specs.declared.Counts.{Counts}
 use Rattle.archive.specs.Layout.{size_of}
 use Rattle.archive_write.specs.Archive.{word_bytes, litter_bytes, group_bytes, counts_bytes, trailer_bytes, litters_to, counted_to, totals_to, archive_of}
 

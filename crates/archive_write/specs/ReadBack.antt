@@ -15,10 +15,11 @@ use Rattle.litters.specs.Valid.{valid_litter_of, each_valid_of}
 use Rattle.litters.specs.Checks.{bounds, each_valid}
 use Rattle.summary.specs.declared.GroupCounts.{GroupCounts}
 use Rattle.summary.specs.Most.{Most}
-use Rattle.archive.specs.declared.counts.Counts.{Counts}
+use Rattle.summary.specs.declared.Counts.{Counts}
+use Rattle.summary.specs.Both.{one_of, BothMost}
 use Rattle.archive.specs.Layout.{word_at, group_in, successes_in, total_in, valid_of, size_of, count_in, totals_byte_in, litter_byte_in}
 use Rattle.archive.specs.Shaped.{Shaped}
-use Rattle.archive.specs.Counts.{one_of, litter_in, group_totals_of, totals_of, totals_in, counts_to, numbers_from, BothMost}
+use Rattle.archive.specs.Counts.{litter_in, group_totals_of, totals_of, totals_in, counts_to, numbers_from}
 use Rattle.archive.specs.Right.{Right}
 use Rattle.archive.specs.Most.{counts_most}
 use Rattle.archive_write.specs.Archive.{word_bytes, litter_bytes, group_bytes, counts_bytes, trailer_bytes, litters_to, counted_to, totals_to, archive_of, is_writable_of}

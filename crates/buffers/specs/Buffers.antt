@@ -1,12 +1,16 @@
 -- What the exported functions put into a host's buffers.
-use Rattle.std.specs.Prelude.{Bool, false, cond, ◌&&◌, List, [], ◌∷◌, ◌++◌, ℕ, ◌+◌, eqb, leb, length, get_or, Float}
+use Rattle.std.specs.Prelude.{Bool, false, cond, ◌&&◌, List, [], ◌∷◌, ◌++◌, ℕ, ◌+◌, eqb, leb, length, take, get_or, replicate, Float, Result, Ok, Err}
 use Rattle.std.specs.Float.{nan}
+use Rattle.num.specs.F64.{zero·}
 use Rattle.summary.specs.Summary.{listed_of}
-use Rattle.work.specs.Ended.{number_of, reason_of}
+use Rattle.work.specs.Refusal.{number_of, reason_of}
 use Rattle.descent.specs.Status.{number_of as Status·number_of}
 use Rattle.objective.specs.declared.sum.Objective.{Objective}
-use Rattle.summary.specs.declared.Summary.{Summary}
+use Rattle.objective.specs.declared.sum.Refused as objective
+use Rattle.summary.specs.declared.Counts.{Counts}
+use Rattle.work.specs.declared.Refusal.{Refusal}
 use Rattle.fit.specs.declared.report.Fit.{Fit}
+use Rattle.fit.specs.declared.report.Refused as fit
 use Rattle.store.specs.Stored.{stored}
 use Rattle.store.specs.Given.{Given, given}
 
@@ -35,9 +39,9 @@ first_numbers_of f = get_or f.means 0 nan ∷ get_or f.means 1 nan ∷ get_or f.
 abbrev pub all_numbers_of : Fit → List Float
 all_numbers_of f = first_numbers_of f ++ ((get_or f.variances 0 nan ∷ get_or f.variances 1 nan ∷ four f.gradient 0) ++ rows_of f.hessian)
 
--- of a buffer with n places: the first six where there is no room for all
-unfoldable pub fit_numbers_of : Fit → ℕ → List Float
-fit_numbers_of f n = cond (leb 28 n) (all_numbers_of f) (first_numbers_of f)
+-- of a buffer with n places: the first six of all 28 where there is no room for all
+abbrev pub placed_of : List Float → ℕ → List Float
+placed_of all n = cond (leb 28 n) all (take 6 all)
 
 abbrev mark_at : Fit → ℕ → ℕ
 mark_at f i = cond (get_or f.active i false) 1 0
@@ -45,13 +49,19 @@ mark_at f i = cond (get_or f.active i false) 1 0
 -- status, fit evaluations, iterations, quadrature evaluations, litters, reason, a mark for each coordinate on a bound
 unfoldable pub fit_counts_of : Fit → List ℕ
 fit_counts_of f =
-    Status·number_of f.status ∷ f.evaluations.0 ∷ f.iterations.0 ∷ f.quadrature.0 ∷ f.litters ∷ reason_of f.end ∷ mark_at f 0 ∷ mark_at f 1 ∷
+    Status·number_of f.status ∷ f.evaluations.0 ∷ f.iterations.0 ∷ f.quadrature.0 ∷ f.litters ∷ 0 ∷ mark_at f 0 ∷ mark_at f 1 ∷
     mark_at f 2 ∷ mark_at f 3 ∷ []
 
-unfoldable pub put_fit_of : Fit → List Float → List ℕ → Given
-put_fit_of f numbers counts = given (number_of f.end) (stored numbers (fit_numbers_of f (length numbers))) (stored counts (fit_counts_of f))
+-- a refusal: its quadrature evaluations and its reason
+unfoldable pub refused_counts_of : fit.Refused → List ℕ
+refused_counts_of e = 0 ∷ 0 ∷ 0 ∷ e.quadrature.0 ∷ 0 ∷ reason_of e.refusal ∷ 0 ∷ 0 ∷ 0 ∷ 0 ∷ []
 
-unfoldable pub fit_given : Fit → List Float → List Float → List ℕ → Given
+-- 0 and the fit, or the refusal's number and zeros
+unfoldable pub put_fit_of : Result Fit fit.Refused → List Float → List ℕ → Given
+put_fit_of (Ok f) numbers counts = given 0 (stored numbers (placed_of (all_numbers_of f) (length numbers))) (stored counts (fit_counts_of f))
+put_fit_of (Err e) numbers counts = given (number_of e.refusal) (stored numbers (placed_of (replicate 28 zero·) (length numbers))) (stored counts (refused_counts_of e))
+
+unfoldable pub fit_given : Result Fit fit.Refused → List Float → List Float → List ℕ → Given
 fit_given f bounds numbers counts = cond (fit_room_of (length bounds) (length numbers) (length counts)) (put_fit_of f numbers counts) (unwritten numbers counts)
 
 -- ---- an objective
@@ -64,21 +74,21 @@ objective_room_of point numbers counts = eqb point 4 && (leb 22 numbers && leb 2
 abbrev pub objective_numbers_of : Objective → List Float
 objective_numbers_of o = (o.v.nll ∷ four o.v.gradient 0) ++ (rows_of o.v.hessian ++ (o.v.refinement ∷ []))
 
--- evaluations, reason
-unfoldable pub objective_counts_of : Objective → List ℕ
-objective_counts_of o = o.used.0 ∷ reason_of o.end ∷ []
+-- 0 and the objective, or the refusal's number and zeros; the counts are the evaluations and the reason
+unfoldable pub put_objective_of : Result Objective objective.Refused → List Float → List ℕ → Given
+put_objective_of (Ok o) numbers counts = given 0 (stored numbers (objective_numbers_of o)) (stored counts (o.used.0 ∷ 0 ∷ []))
+put_objective_of (Err e) numbers counts = given (number_of e.refusal) (stored numbers (replicate 22 zero·)) (stored counts (e.used.0 ∷ reason_of e.refusal ∷ []))
 
-unfoldable pub put_objective_of : Objective → List Float → List ℕ → Given
-put_objective_of o numbers counts = given (number_of o.end) (stored numbers (objective_numbers_of o)) (stored counts (objective_counts_of o))
-
-unfoldable pub objective_given : Objective → List Float → List Float → List ℕ → Given
+unfoldable pub objective_given : Result Objective objective.Refused → List Float → List Float → List ℕ → Given
 objective_given o point numbers counts =
     cond (objective_room_of (length point) (length numbers) (length counts)) (put_objective_of o numbers counts) (unwritten numbers counts)
 
 -- ---- a summary, which has no numbers
 
-unfoldable pub put_summary_of : Summary → List ℕ → Given
-put_summary_of s counts = given (number_of s.end) [] (stored counts (listed_of s.first s.second))
+-- 0 and both groups' counts, or the refusal's number and zeros
+unfoldable pub put_summary_of : Result Counts Refusal → List ℕ → Given
+put_summary_of (Ok s) counts = given 0 [] (stored counts (listed_of s.first s.second))
+put_summary_of (Err e) counts = given (number_of e) [] (stored counts (replicate 8 0))
 
-unfoldable pub summary_given : Summary → List ℕ → Given
+unfoldable pub summary_given : Result Counts Refusal → List ℕ → Given
 summary_given s counts = cond (leb 8 (length counts)) (put_summary_of s counts) (unwritten [] counts)

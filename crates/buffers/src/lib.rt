@@ -3,27 +3,22 @@
 
 ghost use Rattle.std.specs.Prelude.{◌≡◌, [], ◌≤◌, length};
 ghost use Rattle.store.specs.Stored.{stored};
-ghost use Rattle.buffers.specs.Buffers.{fit_room_of, first_numbers_of, all_numbers_of, fit_numbers_of, fit_counts_of, put_fit_of, objective_room_of, objective_numbers_of, objective_counts_of, put_objective_of, put_summary_of};
+ghost use Rattle.buffers.specs.Buffers.{fit_room_of, all_numbers_of, placed_of, fit_counts_of, refused_counts_of, put_fit_of, objective_room_of, objective_numbers_of, put_objective_of, put_summary_of};
 ghost use Rattle.store.specs.Given.{given};
 
 use fit::Fit;
 use objective::Objective;
-use summary::Summary;
+use summary::Counts;
+use work::Refusal;
 
+#[tactic(auto, unfolding(crate::specs::Buffers::fit_room_of))]
 pub fn fit_room(bounds: usize, numbers: usize, counts: usize) -> bool
     ensures { result ≡ fit_room_of bounds numbers counts }
 {
-    num::both(bounds == 12, num::both(6 <= numbers, 10 <= counts))
+    bounds == 12 && 6 <= numbers && 10 <= counts
 }
 
-fn first_numbers(f: Fit) -> [f64; 6]
-    ensures { result ≡ first_numbers_of f }
-{
-    let means = f.means;
-    let sds = f.sds;
-    [means[0], means[1], sds[0], sds[1], f.nll, f.norm]
-}
-
+// Listed one by one, since std joins arrays only on the heap.
 fn all_numbers(f: Fit) -> [f64; 28]
     ensures { result ≡ all_numbers_of f }
 {
@@ -65,56 +60,73 @@ fn all_numbers(f: Fit) -> [f64; 28]
 }
 
 // A host built before the coordinates were reported lends six places, and has them filled as before.
-fn fit_numbers(f: Fit, numbers: &mut [f64])
+fn place(all: [f64; 28], numbers: &mut [f64])
     requires { 6 ≤ length numbers.old }
-    ensures { numbers.new ≡ stored numbers.old (fit_numbers_of f (length numbers.old)) }
+    ensures { numbers.new ≡ stored numbers.old (placed_of all (length numbers.old)) }
 {
     if 28 <= numbers.len() {
-        let all = all_numbers(f);
-        store::numbers(&all, numbers);
-        return;
+        store::put(&all, numbers);
+    } else {
+        store::put(&all[..6], numbers);
     }
-    let first = first_numbers(f);
-    store::numbers(&first, numbers);
 }
 
+#[tactic(auto, unfolding(crate::specs::Buffers::fit_counts_of))]
 fn fit_counts(f: Fit) -> [u64; 10]
     ensures { result ≡ fit_counts_of f }
 {
-    let status = f.status;
-    let end = f.end;
     let on = f.active;
     [
-        descent::number(status),
+        f.status.number(),
         f.evaluations.0,
         f.iterations.0,
         f.quadrature.0,
         f.litters,
-        work::reason(end),
-        store::mark(on[0]),
-        store::mark(on[1]),
-        store::mark(on[2]),
-        store::mark(on[3]),
+        0,
+        u64::from(on[0]),
+        u64::from(on[1]),
+        u64::from(on[2]),
+        u64::from(on[3]),
     ]
 }
 
-pub fn put_fit(f: Fit, numbers: &mut [f64], counts: &mut [u64]) -> u64
-    requires { (6 ≤ length numbers.old) × (10 ≤ length counts.old) }
-    ensures { given result numbers.new counts.new ≡ put_fit_of f numbers.old counts.old }
+#[tactic(auto, unfolding(crate::specs::Buffers::refused_counts_of))]
+fn refused_counts(e: fit::Refused) -> [u64; 10]
+    ensures { result ≡ refused_counts_of e }
 {
-    let c = fit_counts(f);
-    let end = f.end;
-    fit_numbers(f, numbers);
-    store::counts(&c, counts);
-    work::number(end)
+    let used = e.quadrature.0;
+    [0, 0, 0, used, 0, e.refusal.reason(), 0, 0, 0, 0]
 }
 
+// Answers 0, or the refusal's number beside zeros.
+#[tactic(auto, unfolding(crate::specs::Buffers::put_fit_of))]
+pub fn put_fit(f: Result<Fit, fit::Refused>, numbers: &mut [f64], counts: &mut [u64]) -> u64
+    requires numbers { 6 ≤ length numbers.old }
+    requires counts { 10 ≤ length counts.old }
+    ensures { given result numbers.new counts.new ≡ put_fit_of f numbers.old counts.old }
+{
+    match f {
+        Ok(f) => {
+            place(all_numbers(f), numbers);
+            store::put(&fit_counts(f), counts);
+            0
+        }
+        Err(e) => {
+            place([0.0; 28], numbers);
+            store::put(&refused_counts(e), counts);
+            e.refusal.number()
+        }
+    }
+}
+
+#[tactic(auto, unfolding(crate::specs::Buffers::objective_room_of))]
 pub fn objective_room(point: usize, numbers: usize, counts: usize) -> bool
     ensures { result ≡ objective_room_of point numbers counts }
 {
-    num::both(point == 4, num::both(22 <= numbers, 2 <= counts))
+    point == 4 && 22 <= numbers && 2 <= counts
 }
 
+// Listed one by one, since std joins arrays only on the heap.
 pub fn objective_numbers(o: Objective) -> [f64; 22]
     ensures { result ≡ objective_numbers_of o }
 {
@@ -146,31 +158,45 @@ pub fn objective_numbers(o: Objective) -> [f64; 22]
     ]
 }
 
-fn objective_counts(o: Objective) -> [u64; 2]
-    ensures { result ≡ objective_counts_of o }
-{
-    let end = o.end;
-    [o.used.0, work::reason(end)]
-}
-
-pub fn put_objective(o: Objective, numbers: &mut [f64], counts: &mut [u64]) -> u64
-    requires { (22 ≤ length numbers.old) × (2 ≤ length counts.old) }
+// Answers 0, or the refusal's number beside zeros.
+#[tactic(auto, unfolding(crate::specs::Buffers::put_objective_of))]
+pub fn put_objective(
+    o: Result<Objective, objective::Refused>,
+    numbers: &mut [f64],
+    counts: &mut [u64],
+) -> u64
+    requires numbers { 22 ≤ length numbers.old }
+    requires counts { 2 ≤ length counts.old }
     ensures { given result numbers.new counts.new ≡ put_objective_of o numbers.old counts.old }
 {
-    let n = objective_numbers(o);
-    let c = objective_counts(o);
-    let end = o.end;
-    store::numbers(&n, numbers);
-    store::counts(&c, counts);
-    work::number(end)
+    match o {
+        Ok(o) => {
+            store::put(&objective_numbers(o), numbers);
+            store::put(&[o.used.0, 0], counts);
+            0
+        }
+        Err(e) => {
+            store::put(&[0.0; 22], numbers);
+            store::put(&[e.used.0, e.refusal.reason()], counts);
+            e.refusal.number()
+        }
+    }
 }
 
-pub fn put_summary(s: Summary, counts: &mut [u64]) -> u64
+// Answers 0, or the refusal's number beside zeros.
+#[tactic(auto, unfolding(crate::specs::Buffers::put_summary_of))]
+pub fn put_summary(s: Result<Counts, Refusal>, counts: &mut [u64]) -> u64
     requires { 8 ≤ length counts.old }
     ensures { given result [] counts.new ≡ put_summary_of s counts.old }
 {
-    let c = summary::listed(s.first, s.second);
-    let end = s.end;
-    store::counts(&c, counts);
-    work::number(end)
+    match s {
+        Ok(s) => {
+            store::put(&s.listed(), counts);
+            0
+        }
+        Err(e) => {
+            store::put(&[0; 8], counts);
+            e.number()
+        }
+    }
 }

@@ -2,10 +2,10 @@
 #![tactic(auto)]
 
 ghost use Rattle.std.specs.Prelude.{◌≡◌};
-ghost use Rattle.trial.specs.Judged.{norm_at_of};
-ghost use Rattle.claim.specs.Claim.{number_of, reason_of, point_in, within_of, in_box_of, same_bits_of, refusal_of, judged_of};
+ghost use Rattle.claim.specs.Claim.{number_of, reason_of, point_in, within_of, in_box_of, same_bits_of, by_objective, judged_of};
 
 use objective::Objective;
+use step::Region;
 use work::QuadratureEvaluations;
 
 pub mod give;
@@ -17,10 +17,9 @@ pub struct Claim {
     pub nll: f64,
 }
 
-// How a claim was judged. A `Domain` carries the objective's reason.
-#[derive(Clone, Copy)]
-pub enum Verdict {
-    Accepted,
+// Why a claim is not accepted. A `Domain` carries the objective's reason.
+#[derive(Clone, Copy, PartialEq, Eq)]
+pub enum Refusal {
     InvalidInput,
     Domain(u64),
     OutsideBox,
@@ -28,121 +27,119 @@ pub enum Verdict {
     NormAbove,
 }
 
-// The objective's evaluations, likelihood and norm; zeros beside a refusal, but for the evaluations.
+// Of a claim that is accepted: the objective's evaluations, its likelihood and norm.
 #[derive(Clone, Copy)]
 pub struct Vetted {
-    pub verdict: Verdict,
     pub used: QuadratureEvaluations,
     pub nll: f64,
     pub norm: f64,
 }
 
-pub fn number(v: Verdict) -> u64
-    ensures { result ≡ number_of v }
-{
-    match v {
-        Verdict::Accepted => 0,
-        Verdict::InvalidInput => 1,
-        Verdict::Domain(_) => 2,
-        Verdict::OutsideBox => 5,
-        Verdict::LikelihoodDiffers => 6,
-        Verdict::NormAbove => 7,
+// Of one that is not: why, and the objective's evaluations.
+#[derive(Clone, Copy)]
+pub struct Refused {
+    pub refusal: Refusal,
+    pub used: QuadratureEvaluations,
+}
+
+impl Refusal {
+    pub fn number(self) -> u64
+        ensures { result ≡ number_of self }
+    {
+        match self {
+            Refusal::InvalidInput => 1,
+            Refusal::Domain(_) => 2,
+            Refusal::OutsideBox => 5,
+            Refusal::LikelihoodDiffers => 6,
+            Refusal::NormAbove => 7,
+        }
+    }
+
+    // 0 for what is no `Domain`.
+    pub fn reason(self) -> u64
+        ensures { result ≡ reason_of self }
+    {
+        match self {
+            Refusal::Domain(r) => r,
+            _ => 0,
+        }
     }
 }
 
-pub fn reason(v: Verdict) -> u64
-    ensures { result ≡ reason_of v }
-{
-    match v {
-        Verdict::Accepted => 0,
-        Verdict::InvalidInput => 0,
-        Verdict::Domain(r) => r,
-        Verdict::OutsideBox => 0,
-        Verdict::LikelihoodDiffers => 0,
-        Verdict::NormAbove => 0,
+impl From<objective::Refused> for Refused {
+    ghost from_gives = { λ e r. r ≡ by_objective e };
+
+    fn from(e: objective::Refused) -> Refused {
+        Refused {
+            refusal: Refusal::Domain(e.refusal.reason()),
+            used: e.used,
+        }
     }
 }
 
-pub fn point(c: Claim) -> [f64; 4]
-    ensures { result ≡ point_in c }
-{
-    let m = c.means;
-    let v = c.variances;
-    [m[0], m[1], v[0], v[1]]
+impl Claim {
+    pub fn point(self) -> [f64; 4]
+        ensures { result ≡ point_in self }
+    {
+        let m = self.means;
+        let v = self.variances;
+        [m[0], m[1], v[0], v[1]]
+    }
 }
 
 fn within(x: f64, lo: f64, hi: f64) -> bool
     ensures { result ≡ within_of x lo hi }
 {
-    num::both(lo <= x, x <= hi)
+    lo <= x && x <= hi
 }
 
 // As numbers: the ends are inside, -0 lies at +0, and a NaN is outside.
-pub fn in_box(x: [f64; 4], lo: [f64; 4], hi: [f64; 4]) -> bool
-    ensures { result ≡ in_box_of x lo hi }
+#[tactic(auto, unfolding(crate::specs::Claim::in_box_of))]
+pub fn in_box(b: Region, x: [f64; 4]) -> bool
+    ensures { result ≡ in_box_of x b.lo b.hi }
 {
-    let a = within(x[0], lo[0], hi[0]);
-    let b = within(x[1], lo[1], hi[1]);
-    let c = within(x[2], lo[2], hi[2]);
-    let d = within(x[3], lo[3], hi[3]);
-    num::both(a, num::both(b, num::both(c, d)))
+    let lo = b.lo;
+    let hi = b.hi;
+    within(x[0], lo[0], hi[0])
+        && within(x[1], lo[1], hi[1])
+        && within(x[2], lo[2], hi[2])
+        && within(x[3], lo[3], hi[3])
 }
 
 // By their bits: -0 and +0 differ, and any NaN is the same as any other.
+#[tactic(auto, unfolding(crate::specs::Claim::same_bits_of))]
 fn same_bits(a: f64, b: f64) -> bool
     ensures { result ≡ same_bits_of a b }
 {
-    let p = print::bits(a);
-    let q = print::bits(b);
-    p == q
-}
-
-fn norm_at(lo: [f64; 4], hi: [f64; 4], x: [f64; 4], o: Objective) -> f64
-    ensures { result ≡ norm_at_of lo hi x o.v }
-{
-    let gradient = o.v.gradient;
-    let inward = step::project(x, gradient, lo, hi);
-    step::norm(inward)
-}
-
-pub fn refusal(verdict: Verdict, used: QuadratureEvaluations) -> Vetted
-    ensures { result ≡ refusal_of verdict used.0 }
-{
-    Vetted {
-        verdict,
-        used,
-        nll: 0.0,
-        norm: 0.0,
-    }
+    print::bits(a) == print::bits(b)
 }
 
 // What the objective o at the point x decides of the claimed likelihood.
+#[tactic(auto, unfolding(crate::specs::Claim::judged_of))]
 pub fn judged(
-    lo: [f64; 4],
-    hi: [f64; 4],
+    b: Region,
     tolerance: f64,
     x: [f64; 4],
     claimed: f64,
-    o: Objective,
-) -> Vetted
-    ensures { result ≡ judged_of lo hi tolerance x claimed o }
+    o: Result<Objective, objective::Refused>,
+) -> Result<Vetted, Refused>
+    ensures { result ≡ judged_of b.lo b.hi tolerance x claimed o }
 {
-    let end = o.end;
+    let o = o?;
     let used = o.used;
-    if work::refused(end) {
-        return refusal(Verdict::Domain(work::reason(end)), used);
-    }
-    if !same_bits(o.v.nll, claimed) {
-        return refusal(Verdict::LikelihoodDiffers, used);
-    }
-    let norm = norm_at(lo, hi, x, o);
-    if norm <= tolerance {
-        return Vetted {
-            verdict: Verdict::Accepted,
+    let nll = o.v.nll;
+    if !same_bits(nll, claimed) {
+        return Err(Refused {
+            refusal: Refusal::LikelihoodDiffers,
             used,
-            nll: o.v.nll,
-            norm,
-        };
+        });
     }
-    refusal(Verdict::NormAbove, used)
+    let norm = trial::norm_at(b, x, o.v);
+    if norm <= tolerance {
+        return Ok(Vetted { used, nll, norm });
+    }
+    Err(Refused {
+        refusal: Refusal::NormAbove,
+        used,
+    })
 }

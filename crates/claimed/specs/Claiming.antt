@@ -1,42 +1,28 @@
 -- What the code answers of a text with a claim, and what its litters leave in the buffer.
-use Rattle.std.specs.Prelude.{◌≡◌, refl, true, false, cond, List, [], ◌∷◌, ℕ, ◌+◌, ltb, length, take, drop, get_or, replicate}
+use Rattle.std.specs.Prelude.{◌≡◌, refl, Result, Ok, Err, cond, List, [], ◌∷◌, ℕ, ◌+◌, ltb, length, take, drop, get_or}
 use Rattle.std.proofs.Common.{arith}
 use borrow.Table.Steps.{cases}
 use Rattle.read.specs.Long.{length_fill}
 use Rattle.template.specs.Read.{Reading, done, departs_at, read}
-use Rattle.read.specs.declared.Asking.{Asking}
+use Rattle.template.specs.declared.read.Form.{Form}
 use Rattle.read.specs.Request.{Asked, asked, form, is_empty, read_request}
 use Rattle.read.specs.Rows.{put_litters, fill_request}
 use Rattle.read.specs.Filled.{request_filled}
 use Rattle.claimed.specs.declared.Claiming.{Claiming}
-use Rattle.claimed.specs.declared.Lines.{Lines}
 use Rattle.claimed.specs.Claimed.{Claims, claims, departed, claim, claim_at_of, read_claim, read_behind, read_claimed}
 
 abbrev pub five : List ℕ → List ℕ
 five us = get_or us 0 0 ∷ get_or us 1 0 ∷ get_or us 2 0 ∷ get_or us 3 0 ∷ get_or us 4 0 ∷ []
 
 -- the claim's lines, after n litters
-abbrev unclaimed : ℕ → Lines
-unclaimed line = record { fits = false; line = line; claim = replicate 5 0 }
-
-unfoldable pub behind_of : ℕ → Reading → Lines
-behind_of n (departs_at k) = unclaimed k
-behind_of n (done us t) = cond (is_empty t) (record { fits = true; line = 0; claim = five us }) (unclaimed (12 + n))
-
-abbrev pub departed_of : ℕ → Claiming
-departed_of line = record { fits = false; line = line; count = 0; values = replicate 16 0; claim = replicate 5 0 }
-
-abbrev pub held_of : ℕ → List ℕ → List ℕ → Claiming
-held_of count values claim = record { fits = true; line = 0; count = count; values = values; claim = claim }
-
--- of a request that has the form
-unfoldable pub joined_of : Asking → Lines → Claiming
-joined_of a b = cond b.fits (held_of a.count a.values b.claim) (departed_of b.line)
+unfoldable pub behind_of : ℕ → Reading → Result (List ℕ) Form
+behind_of n (departs_at k) = Err (record { line = k })
+behind_of n (done us t) = cond (is_empty t) (Ok (five us)) (Err (record { line = 12 + n }))
 
 -- the whole answer
-abbrev pub claiming_of : Claims → Claiming
-claiming_of (departed k) = departed_of k
-claiming_of (claims vs ls us) = held_of (length ls) vs (five us)
+abbrev pub claiming_of : Claims → Result Claiming Form
+claiming_of (departed k) = Err (record { line = k })
+claiming_of (claims vs ls us) = Ok (record { asking = record { count = length ls; values = vs }; claim = five us })
 
 unfoldable pub fill_claimed : List ℕ → List ℕ → List ℕ
 fill_claimed b text = cond (ltb 8192 (length text)) b (fill_request b (take (claim_at_of 10 text) text))

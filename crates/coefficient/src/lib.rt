@@ -7,9 +7,9 @@ ghost use Rattle.coefficient.specs.Coefficient.{coefficient_of};
 
 // The same with successes and failures exchanged, and +0 where either is zero.
 pub fn coefficient(successes: u32, total: u32) -> f64
-    ensures value { result ≡ coefficient_of successes total }
-    ensures value_2 { successes ≤ total → result ≡ coefficient_of (total - successes) total }
-    ensures value_3 { total ≤ 1000 → (successes ≡ 0) ⊎ (successes ≡ total) → result ≡ zero· }
+    ensures definition { result ≡ coefficient_of successes total }
+    ensures exchanged { successes ≤ total → result ≡ coefficient_of (total - successes) total }
+    ensures nothing_to_choose { total ≤ 1000 → (successes ≡ 0) ⊎ (successes ≡ total) → result ≡ zero· }
 {
     let all = factorial::log_factorial(total);
     let a = factorial::log_factorial(successes);

@@ -22,9 +22,6 @@ use Rattle.conditionals.specs.Normals.{across_of, turned_of, sizes_of, halves_of
 use Rattle.conditionals.specs.Tails.{fractions_of, beyond_of, tails_at, tails_of}
 use Rattle.conditionals.proofs.TailsLaws.{none_beyond}
 
-pub gap : (r x l : Float) → r ≡ log_phi_of x → r ⊖ l ≡ log_phi_of x ⊖ l
-gap r x l e = rw e
-
 -- ---- the distribution, by erfc of each size
 pub size_at : (t p : List Float) (j : ℕ) → p ≡ erfcs_of (sizes_of t) → j < 16 → get_or p j nan ≡ erfc_pos_of (size_of (get_or t j nan))
 unfolding erfcs_of sizes_of

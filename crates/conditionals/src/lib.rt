@@ -31,6 +31,7 @@ fn share(x: f64, y: f64, f: f64, lp: f64, rp: f64, lm: f64, rm: f64) -> normal::
 fn shares(x: [f64; 16], y: f64, f: f64, low: Ratios, high: Ratios) -> Moments
     ensures { result ≡ shares_of x y f low high }
 {
+    // One loop, since each place's five numbers come of one call: five `from_fn` would call it five times.
     let mut log = [0.0; 16];
     let mut first = [0.0; 16];
     let mut second = [0.0; 16];
@@ -62,6 +63,7 @@ fn shares(x: [f64; 16], y: f64, f: f64, low: Ratios, high: Ratios) -> Moments
     }
 }
 
+#[tactic(auto, using(crate::proofs::Laws::by_stages))]
 pub fn conditionals(x: [f64; 16], successes: u32, total: u32) -> Moments
     ensures { result ≡ conditionals_of x successes total }
 {

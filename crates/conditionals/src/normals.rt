@@ -3,6 +3,8 @@ ghost use Rattle.std.specs.Prelude.{◌≡◌};
 ghost use Rattle.lanes.specs.Lanes.{erfcs_of};
 ghost use Rattle.conditionals.specs.Normals.{across_of, turned_of, sizes_of, halves_of, cdfs_of, gaps_of, normals_of};
 
+use std::array;
+
 const SQRT_2: f64 = 1.4142135623730951;
 
 #[derive(Clone, Copy)]
@@ -21,32 +23,20 @@ pub struct Pairs {
 pub fn across(x: [f64; 16]) -> [f64; 16]
     ensures { result ≡ across_of x }
 {
-    let mut v = [0.0; 16];
-    for i in 0..16usize {
-        v[i] = -x[i];
-    }
-    v
+    array::from_fn(|i| -x[i])
 }
 
 // Where erfc is asked for.
 fn turned(x: [f64; 16]) -> [f64; 16]
     ensures { result ≡ turned_of x }
 {
-    let mut v = [0.0; 16];
-    for i in 0..16usize {
-        v[i] = -x[i] / SQRT_2;
-    }
-    v
+    array::from_fn(|i| -x[i] / SQRT_2)
 }
 
 fn sizes(t: [f64; 16]) -> [f64; 16]
     ensures { result ≡ sizes_of t }
 {
-    let mut v = [0.0; 16];
-    for i in 0..16usize {
-        v[i] = normal::twins::size(t[i]);
-    }
-    v
+    array::from_fn(|i| normal::twins::size(t[i]))
 }
 
 // p is erfc of each size.
@@ -54,6 +44,7 @@ fn halves(t: [f64; 16], p: [f64; 16]) -> Pairs
     requires { p ≡ erfcs_of (sizes_of t) }
     ensures { result ≡ halves_of t }
 {
+    // One loop, since both come of one call.
     let mut at = [0.0; 16];
     let mut across = [0.0; 16];
     for i in 0..16usize {
@@ -64,6 +55,7 @@ fn halves(t: [f64; 16], p: [f64; 16]) -> Pairs
     Pairs { at, across }
 }
 
+#[tactic(auto, using(crate::proofs::NormalsLaws::sized, crate::proofs::NormalsLaws::by_halves))]
 pub fn cdfs(x: [f64; 16]) -> Pairs
     ensures { result ≡ cdfs_of x }
 {
@@ -75,13 +67,10 @@ pub fn cdfs(x: [f64; 16]) -> Pairs
 fn gaps(x: [f64; 16], log: [f64; 16]) -> [f64; 16]
     ensures { result ≡ gaps_of x log }
 {
-    let mut v = [0.0; 16];
-    for i in 0..16usize {
-        v[i] = normal::mills::log_phi(x[i]) - log[i];
-    }
-    v
+    array::from_fn(|i| normal::mills::log_phi(x[i]) - log[i])
 }
 
+#[tactic(auto, using(num::specs::Choose::choose, crate::proofs::NormalsLaws::by_tails, crate::proofs::NormalsLaws::by_centres))]
 pub fn normals(x: [f64; 16], cdf: [f64; 16]) -> Ratios
     ensures { result ≡ normals_of x cdf }
 {

@@ -3,16 +3,13 @@ ghost use Rattle.std.specs.Prelude.{◌≡◌};
 ghost use Rattle.conditionals.specs.Tails.{deeper_of, fractions_of, beyond_of, tail_at_of, tails_of};
 
 use crate::normals::Ratios;
+use std::array;
 
 // One term farther out: term / (t + f).
 fn deeper(t: [f64; 16], f: [f64; 16], term: f64) -> [f64; 16]
     ensures { result ≡ deeper_of t f term }
 {
-    let mut v = [0.0; 16];
-    for i in 0..16usize {
-        v[i] = term / (t[i] + f[i]);
-    }
-    v
+    array::from_fn(|i| term / (t[i] + f[i]))
 }
 
 fn fractions(t: [f64; 16]) -> [f64; 16]
@@ -20,6 +17,7 @@ fn fractions(t: [f64; 16]) -> [f64; 16]
 {
     let mut f = [0.0; 16];
     let mut k: u32 = 64;
+    // Counted down, as the laws of the fraction go: by the terms still to come.
     while 0 < k {
         let g = deeper(t, f, k as f64);
         f = g;
@@ -56,6 +54,7 @@ pub fn tails(x: [f64; 16], n: Ratios) -> Ratios
     ensures { result ≡ tails_of x n }
 {
     let f = fractions(crate::normals::across(x));
+    // One loop, since both come of one call.
     let mut log = [0.0; 16];
     let mut mills = [0.0; 16];
     for i in 0..16usize {

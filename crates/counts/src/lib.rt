@@ -5,4 +5,4 @@ pub mod rungs;
 pub mod share;
 pub mod sum;
 
-pub use sum::{Objective, Passes, gamma_poisson_objective};
+pub use sum::{Objective, Passes, Refused, gamma_poisson_objective};

@@ -32,17 +32,20 @@ pub fn nothing() -> Rising
     }
 }
 
-pub fn passed(s: Rising, term: f64) -> Rising
-    ensures { result ≡ passed_of s term }
-{
-    let reciprocal = 1.0 / term;
-    Rising {
-        log: s.log + elementary::log::log(term),
-        inverse: s.inverse + reciprocal,
-        squared: s.squared + reciprocal * reciprocal,
+impl Rising {
+    pub fn passed(self, term: f64) -> Rising
+        ensures { result ≡ passed_of self term }
+    {
+        let reciprocal = 1.0 / term;
+        Rising {
+            log: self.log + elementary::log::log(term),
+            inverse: self.inverse + reciprocal,
+            squared: self.squared + reciprocal * reciprocal,
+        }
     }
 }
 
+#[tactic(auto, unfolding(crate::specs::Share::softplus_of))]
 fn softplus(x: f64) -> f64
     ensures { result ≡ softplus_of x }
 {
@@ -64,6 +67,7 @@ fn odds_with(logq: f64, logp: f64) -> Odds
 }
 
 // At the difference of the logarithms of exposure and rate. On either side of zero the two softplus have their logarithm in common: it is computed once.
+#[tactic(auto, using(crate::proofs::Laws::odds_above, crate::proofs::Laws::odds_below), unfolding(crate::specs::Share::odds_at_of))]
 fn odds_at(difference: f64) -> Odds
     ensures { result ≡ odds_at_of difference }
 {
@@ -93,6 +97,7 @@ fn added(v: Planar, shape: f64, count: f64, factorial: f64, s: Rising, o: Odds) 
 }
 
 // The source computes the exposure's logarithm and the factorial once a row; here they are computed at each evaluation, to the same bits.
+#[tactic(auto, unfolding(crate::specs::Share::row_of, crate::specs::Share::with_row_of))]
 pub fn with_row(
     v: Planar,
     shape: f64,
@@ -100,7 +105,7 @@ pub fn with_row(
     count: u32,
     exposure: f64,
     top: u32,
-    rungs: &[f64],
+    rungs: &[Rising; 64],
 ) -> Planar
     requires { Held shape top rungs.now }
     ensures { result ≡ with_row_of v shape y count exposure }

@@ -1,5 +1,5 @@
--- Whether a fit may come out worse than its start: crates/descent's claims, of the record that the code returns and of its own list of trials.
-use Rattle.std.specs.Prelude.{◌≡◌, true, List, [], ℕ, T, length, Float}
+-- Whether a fit may come out worse than its start: crates/descent's claims, of what the code returns and of its own list of trials.
+use Rattle.std.specs.Prelude.{◌≡◌, true, List, [], ℕ, T, length, Float, Ok}
 use Rattle.std.proofs.Math.Path.{refl, ap, sym}
 use Rattle.std.proofs.Common.{◌∙◌}
 use Rattle.std.specs.Float.{binary64}
@@ -8,9 +8,8 @@ use Rattle.num.specs.Helpers.{is_finite_of}
 use Rattle.work.specs.Impossible.{impossible}
 use Rattle.order.specs.Numbers.{finite_number}
 use Rattle.elementary.specs.Log.{log_of}
-use Rattle.work.specs.declared.Ending.TheVariants.{Answered}
-use Rattle.work.specs.Ended.{Ended, done, stopped, short, invalid, domain, value_or}
-use Rattle.work.specs.Work.{ret, run, metered, told}
+use Rattle.work.specs.Ended.{Ended, done, stopped, short, value_or}
+use Rattle.work.specs.Work.{ret, run, metered}
 use Rattle.work.specs.Metered.{split, after}
 use Rattle.work.specs.Given.{of_run}
 use Rattle.work.specs.Asks.{answers}
@@ -27,7 +26,7 @@ use Rattle.exposure.specs.Request.{admitted_of}
 use Rattle.counts.specs.Known.{Known, nll_finite, evaluate_known}
 use Rattle.plane.specs.Plane.{Spot, plane_of}
 use Rattle.counts_fit.specs.declared.report.Fit.{Fit}
-use Rattle.counts_fit.specs.Fit.{start_of, plane_for, value_at, report_of, to_fit, no_report, fit_of}
+use Rattle.counts_fit.specs.Fit.{start_of, plane_for, value_at, report_of, to_fit, fit_by, fit_of}
 use Rattle.counts_fit.specs.Among.{enough}
 use Rattle.counts_fit.specs.Whole.{planar, fit_after, unfit_refused}
 
@@ -58,25 +57,27 @@ pub record Ends (r : Request) (cs : List ℕ) (f : Fit) (e : Ended (Descended Sp
   pub d : Descended Spot Planar
   pub used : ℕ
   pub ended : e ≡ done d
-  pub is : f ≡ to_fit Answered used (report_of r (length cs) d)
+  pub is : f ≡ to_fit used (report_of r (length cs) d)
+
+counted_so : (r : Request) (m : ℕ) (f : Fit) (n : ℕ) (d : Descended Spot Planar) → f ≡ to_fit n (report_of r m d) → f ≡ to_fit f.passes.0 (report_of r m d)
+counted_so r m f n d e = rw e
 
 module _ (r : Request) (cs : List ℕ) (es : List Float) where
-  by_ending : (f : Fit) (e : Ended (Descended Spot Planar)) (u : ℕ) → f ≡ told to_fit no_report (after e u (λ d n. metered log_of enough n (ret (report_of r (length cs) d)))) → f.end ≡ Answered → Ends r cs f e
+  by_ending : (f : Fit) (e : Ended (Descended Spot Planar)) (u : ℕ) → fit_by (after e u (λ d n. metered log_of enough n (ret (report_of r (length cs) d)))) ≡ Ok f → Ends r cs f e
   unfolding metered
-  by_ending f (done d) u h k = record { d = d; used = u; ended = refl; is = h }
-  by_ending f (stopped invalid) u h k = let z = sym (ap (λ g. g.end) h) ∙ k in impossible (cc)
-  by_ending f (stopped (domain i)) u h k = let z = sym (ap (λ g. g.end) h) ∙ k in impossible (cc)
-  by_ending f short u h k = let z = sym (ap (λ g. g.end) h) ∙ k in impossible (cc)
+  by_ending f (done d) u h = record { d = d; used = u; ended = refl; is = cc }
+  by_ending f (stopped i) u h = impossible (cc)
+  by_ending f short u h = impossible (cc)
 
   descent_is : (metered log_of enough 0 (planar r cs es)).ended ≡ (descent_of r cs es).ended
   unfolding descent_of
   descent_is = ap (λ m. m.ended) (driven_is log_of (λ q. value_at cs es q.at) enough 0 (descent (plane_of (plane_for r)) (start_of r)))
 
-  pub ends : (fit_of r cs es).end ≡ Answered → Ends r cs (fit_of r cs es) (descent_of r cs es).ended
-  ends k =
+  pub ends : (f : Fit) → fit_of r cs es ≡ Ok f → Ends r cs f (descent_of r cs es).ended
+  ends f k =
       split (admitted_of r cs es)
-      (λ t. rw (← descent_is) (by_ending (fit_of r cs es) (metered log_of enough 0 (planar r cs es)).ended (metered log_of enough 0 (planar r cs es)).used (fit_after r cs es t) k))
-      (λ t. let z = sym (ap (λ (g : Fit). g.end) (unfit_refused r cs es t)) ∙ k in impossible (cc))
+      (λ t. rw (← descent_is) (by_ending f (metered log_of enough 0 (planar r cs es)).ended (metered log_of enough 0 (planar r cs es)).used (sym (fit_after r cs es t) ∙ k)))
+      (λ t. let z = sym (unfit_refused r cs es t) ∙ k in impossible (cc))
 
   -- a point at which the fit had its objective evaluated, and its value there
   abbrev pub Visited : Spot → Planar → Type 0
@@ -100,7 +101,7 @@ module _ (r : Request) (cs : List ℕ) (es : List Float) where
     pub d : Descended Spot Planar
     pub visited : Visited d.x d.v
     pub value : run log_of (value_at cs es d.x) ≡ done d.v
-    pub report : f ≡ to_fit Answered f.passes.0 (report_of r (length cs) d)
+    pub report : f ≡ to_fit f.passes.0 (report_of r (length cs) d)
 
   -- ---- of every descent, refused or not
   led_to : (d : Descended Spot Planar) → (descent_of r cs es).ended ≡ done d → Descends (plane_of (plane_for r)) Visited (start_of r) d
@@ -124,16 +125,16 @@ module _ (r : Request) (cs : List ℕ) (es : List Float) where
   unfolding trials_of
   fit_rounding_step a m = by_ended (descent_of r cs es).ended (descent_of r cs es).asked refl refl a m
 
-  module _ (h : (fit_of r cs es).end ≡ Answered) where
-    led : Descends (plane_of (plane_for r)) Visited (start_of r) (ends h).d
-    led = led_to (ends h).d (ends h).ended
+  module _ (f : Fit) (h : fit_of r cs es ≡ Ok f) where
+    led : Descends (plane_of (plane_for r)) Visited (start_of r) (ends f h).d
+    led = led_to (ends f h).d (ends f h).ended
 
-    trials_are : trials_of r cs es ≡ (ends h).d.trials
+    trials_are : trials_of r cs es ≡ (ends f h).d.trials
     unfolding trials_of
-    trials_are = ap (λ e. trials_at e (descent_of r cs es).asked) (ends h).ended
+    trials_are = ap (λ e. trials_at e (descent_of r cs es).asked) (ends f h).ended
 
-    nll_is : (fit_of r cs es).nll ≡ (ends h).d.v.nll
-    nll_is = ap (λ f. f.nll) (ends h).is
+    nll_is : f.nll ≡ (ends f h).d.v.nll
+    nll_is = ap (λ g. g.nll) (ends f h).is
 
     start_is : starting_of r cs es ≡ led.start.nll
     start_is = starting_is led.start led.evaluated
@@ -146,22 +147,22 @@ module _ (r : Request) (cs : List ℕ) (es : List Float) where
     start_finite = ap (λ y. is_finite_of y) start_is ∙ start_finite_value
 
     -- The reported likelihood is at most the start's, raised by the allowance of each step by the rounding rule.
-    pub fit_at_most : le (fit_of r cs es).nll (raised_by (trials_of r cs es) (starting_of r cs es)) ≡ true
+    pub fit_at_most : le f.nll (raised_by (trials_of r cs es) (starting_of r cs es)) ≡ true
     fit_at_most =
         carried nll_is trials_are start_is
         (at_most_raised (plane_of (plane_for r)) Visited (start_of r) led.start led.evaluated visited_fits (finite_number led.start.nll start_finite_value) led.led)
 
     -- Where no step was taken by the rounding rule, it is at most the start's.
-    pub fit_not_worse : roundings_of (trials_of r cs es) ≡ 0 → le (fit_of r cs es).nll (starting_of r cs es) ≡ true
+    pub fit_not_worse : roundings_of (trials_of r cs es) ≡ 0 → le f.nll (starting_of r cs es) ≡ true
     fit_not_worse z = let k = fit_at_most in rw (unraised (trials_of r cs es) (starting_of r cs es) z) at k
 
     -- The reported point is one that was evaluated, with the value it had.
-    pub fit_visited : Reports (fit_of r cs es)
+    pub fit_visited : Reports f
     fit_visited =
-        let e = ends h in
+        let e = ends f h in
         let m = led_evaluated (plane_of (plane_for r)) Visited (start_of r) led.start led.evaluated led.led in
-        record { d = e.d; visited = m; value = visited_value e.d.x e.d.v m; report = rw e.is }
+        record { d = e.d; visited = m; value = visited_value e.d.x e.d.v m; report = counted_so r (length cs) f e.used e.d e.is }
 
     -- An answered fit's likelihood is finite.
-    pub likelihood_finite : is_finite_of (fit_of r cs es).nll ≡ true
-    likelihood_finite = ap (λ y. is_finite_of y) nll_is ∙ nll_finite (ends h).d.v (visited_known (ends h).d.x (ends h).d.v (led_evaluated (plane_of (plane_for r)) Visited (start_of r) led.start led.evaluated led.led)).finite
+    pub likelihood_finite : is_finite_of f.nll ≡ true
+    likelihood_finite = ap (λ y. is_finite_of y) nll_is ∙ nll_finite (ends f h).d.v (visited_known (ends f h).d.x (ends f h).d.v (led_evaluated (plane_of (plane_for r)) Visited (start_of r) led.start led.evaluated led.led)).finite

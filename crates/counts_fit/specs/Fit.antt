@@ -1,25 +1,25 @@
 -- `fit_gamma_poisson` of the source, in one unit: a request's checks, the descent in the logarithms of shape and rate, and the report.
-use Rattle.std.specs.Prelude.{Bool, false, cond, ◌||◌, List, [], ◌∷◌, ℕ, length, replicate, Float}
+use Rattle.std.specs.Prelude.{Bool, cond, ◌||◌, List, [], ◌∷◌, ℕ, length, Float, Result, Ok, Err}
 use Rattle.std.specs.Float.Ieee.{eq}
-use Rattle.num.specs.F64.{zero·}
 use Rattle.num.specs.Helpers.{clamp_of}
 use Rattle.elementary.specs.Log.{log_of}
 use Rattle.elementary.specs.Exp.{exp_of}
-use Rattle.work.specs.declared.Ending.{Ending}
-use Rattle.work.specs.Ended.{invalid}
-use Rattle.work.specs.Work.{Work, ret, stop, ◌>>=◌, told}
+use Rattle.work.specs.declared.Refusal.TheVariants.{WorkBudget}
+use Rattle.work.specs.Answer.{refusal_of}
+use Rattle.work.specs.Ended.{invalid, Ended, done, stopped, short}
+use Rattle.work.specs.Work.{Work, ret, stop, ◌>>=◌, Metered}
 use Rattle.work.specs.Through.{through}
 use Rattle.planar.specs.declared.Planar.{Planar}
 use Rattle.descent.specs.declared.Status.{Status}
-use Rattle.descent.specs.declared.Status.TheVariants.{NoStatus}
 use Rattle.descent.specs.Descent.{Descended, descent}
 use Rattle.exposure.specs.declared.request.Bounds.{Bounds}
 use Rattle.exposure.specs.declared.request.Request.{Request}
 use Rattle.exposure.specs.Request.{admitted_of}
 use Rattle.counts.specs.Rows.{evaluate}
-use Rattle.counts.specs.Objective.{in_full}
+use Rattle.counts.specs.Objective.{in_full, refused_of}
 use Rattle.plane.specs.Plane.{Spot, Course, norm_of, projected_of, plane_of}
 use Rattle.counts_fit.specs.declared.report.Fit.{Fit}
+use Rattle.counts.specs.declared.sum.Refused.{Refused}
 
 -- ---- the request in the plane of the logarithms
 
@@ -81,10 +81,9 @@ fit r cs es =
 
 -- ---- the code's answers
 
-abbrev pub to_fit : Ending → ℕ → Report → Fit
-to_fit end n p =
+abbrev pub to_fit : ℕ → Report → Fit
+to_fit n p =
     record {
-      end = end;
       status = p.status;
       shape = p.shape;
       rate = p.rate;
@@ -97,23 +96,19 @@ to_fit end n p =
       active = p.active;
     }
 
-abbrev pub no_report : Report
-no_report =
-    record {
-      status = NoStatus;
-      shape = zero·;
-      rate = zero·;
-      nll = zero·;
-      norm = zero·;
-      evaluations = 0;
-      iterations = 0;
-      rows = 0;
-      active = replicate 2 false;
-    }
+-- what a run with its count comes to
+abbrev pub fit_at : Ended Report → ℕ → Result Fit Refused
+fit_at (done p) n = Ok (to_fit n p)
+fit_at (stopped r) n = Err (refused_of (refusal_of r) n)
+fit_at short n = Err (refused_of WorkBudget n)
 
--- a refusal: its ending and its count, and zeros
-abbrev pub refused_of : Ending → ℕ → Fit
-refused_of end n = to_fit end n no_report
+abbrev pub fit_by : Metered Report → Result Fit Refused
+fit_by m = fit_at m.ended m.used
 
-unfoldable pub fit_of : Request → List ℕ → List Float → Fit
-fit_of r cs es = told to_fit no_report (in_full (fit r cs es))
+unfoldable pub fit_of : Request → List ℕ → List Float → Result Fit Refused
+fit_of r cs es = fit_by (in_full (fit r cs es))
+
+-- the count, of an answer or a refusal
+abbrev pub passes_in : Result Fit Refused → ℕ
+passes_in (Ok f) = f.passes.0
+passes_in (Err e) = e.passes.0

@@ -1,13 +1,12 @@
 -- The reported shape and rate lie within their bounds: they are clamped to them. That a start inside its bounds is inside in the logarithms too is not asked.
 -- And the objective, called alone at an admitted request's start, passes its own checks.
-use Rattle.std.specs.Prelude.{◌≡◌, true, false, ◌&&◌, List, ℕ, Float}
-use Rattle.std.proofs.Common.{ap}
+use Rattle.std.specs.Prelude.{◌≡◌, true, false, ◌&&◌, List, ℕ, Float, Result, Ok, Err}
+use Rattle.std.proofs.Common.{refl, sym, subst}
 use Rattle.std.specs.Float.Ieee.{lt, le, is_nan}
 use Rattle.num.specs.Both.{and_left, and_right}
 use Rattle.order.specs.Order.{lt_le}
 use Rattle.order.specs.Choices.{clamp_not_below, clamp_not_above}
 use Rattle.elementary.specs.Exp.{exp_of}
-use Rattle.work.specs.declared.Ending.TheVariants.{Answered}
 use Rattle.work.specs.Given.{Always, holds, refuses, tested, passed}
 use Rattle.descent.specs.Stopping.{reports_evaluated}
 use Rattle.exposure.specs.declared.request.Bounds.{Bounds}
@@ -16,11 +15,31 @@ use Rattle.exposure.specs.Rows.{is_positive_of, valid_rows_of}
 use Rattle.exposure.specs.Request.{valid_shape_of, is_boxed_of, valid_shapes_of, valid_rates_of, valid_controls_of, valid_request_of, admitted_of}
 use Rattle.exposure.specs.Passed.{admitted_passed}
 use Rattle.counts.specs.Known.{evaluate_shaped}
-use Rattle.counts.specs.Objective.{objective, in_full, objective_of}
+use Rattle.elementary.specs.Log.{log_of}
+use Rattle.num.specs.F64.{zero·}
+use Rattle.planar.specs.declared.Planar.{Planar}
+use Rattle.planar.specs.Planar.{no_planar}
+use Rattle.work.specs.Answer.{outcome}
+use Rattle.work.specs.Ended.{Ended, done, stopped, short, value_or}
+use Rattle.work.specs.Work.{run}
+use Rattle.counts.specs.declared.sum.Objective.{Objective}
+use Rattle.counts.specs.declared.sum.Refused.{Refused}
+use Rattle.counts.specs.Objective.{answered as answered_in, objective, in_full, objective_of}
 use Rattle.plane.specs.Plane.{plane_of}
+use Rattle.counts_fit.specs.declared.report.Fit.{Fit}
 use Rattle.counts_fit.specs.Fit.{Report, start_of, plane_for, value_at, natural_of, fit, fit_of}
 use Rattle.counts_fit.specs.Answers.{answered}
 use Rattle.counts_fit.specs.Claims.{starting_of, ends}
+
+-- a likelihood, 0 where there is none
+abbrev pub nll_in : Result Objective Refused → Float
+nll_in (Ok o) = o.nll
+nll_in (Err e) = zero·
+
+nll_told : (e : Ended Planar) (n : ℕ) → nll_in (answered_in n (outcome e)) ≡ (value_or no_planar e).nll
+nll_told (done v) n = refl
+nll_told (stopped r) n = refl
+nll_told short n = refl
 
 pub record Within (x : Float) (r : Bounds) : Type 0 where
   pub above : le r.low x ≡ true
@@ -51,7 +70,7 @@ module _ (r : Request) (cs : List ℕ) (es : List Float) where
       and_left (is_boxed_of s) _ (and_right (is_positive_of s.start) _ (and_right (is_positive_of s.high) _ (and_right (is_positive_of s.low) _ (and_left (valid_rates_of s) _ (and_right (valid_shapes_of r.shape) _ (asked t))))))
 
   -- the starting likelihood of crates/counts_fit/specs/Claims.antt is the objective's, at the start as the request has it
-  pub starting_objective : admitted_of r cs es ≡ true → (objective_of r.shape.start r.rate.start cs es).nll ≡ starting_of r cs es
+  pub starting_objective : admitted_of r cs es ≡ true → nll_in (objective_of r.shape.start r.rate.start cs es) ≡ starting_of r cs es
   unfolding admitted_of valid_request_of valid_shapes_of valid_rates_of objective_of objective in_full
   starting_objective t =
       let s = r.shape in
@@ -59,7 +78,7 @@ module _ (r : Request) (cs : List ℕ) (es : List Float) where
       let a = and_left (valid_shape_of s.start) _ (and_right (valid_shape_of s.high) _ (and_right (valid_shape_of s.low) _ (and_left (valid_shapes_of s) _ (asked t)))) in
       let b = and_left (is_positive_of q.start) _ (and_right (is_positive_of q.high) _ (and_right (is_positive_of q.low) _ (and_left (valid_rates_of q) _ (and_right (valid_shapes_of s) _ (asked t))))) in
       let c = and_right (valid_request_of r) (valid_rows_of cs es) (and_left (valid_request_of r && valid_rows_of cs es) _ t) in
-      rw (a, b, c)
+      rw (a, b, c) (nll_told (run log_of (value_at cs es (start_of r))) _)
 
   reports_within : Always (λ (p : Report). Within p.shape r.shape) (fit r cs es)
   unfolding fit
@@ -69,9 +88,9 @@ module _ (r : Request) (cs : List ℕ) (es : List Float) where
       (λ t. refuses)
 
   -- the shape, in every answered fit
-  pub shape_within : (fit_of r cs es).end ≡ Answered → Within (fit_of r cs es).shape r.shape
-  shape_within h = let a = answered r cs es (λ t. tt) reports_within h in rw (ap (λ f. f.shape) a.is) a.has
+  pub shape_within : (f : Fit) → fit_of r cs es ≡ Ok f → Within f.shape r.shape
+  shape_within f h = let a = answered r cs es (λ t. tt) reports_within f h in subst (λ g. Within g.shape r.shape) (sym a.is) a.has
 
   -- the rate, where the exponential of the reported coordinate is a number
-  pub rate_within : admitted_of r cs es ≡ true → (h : (fit_of r cs es).end ≡ Answered) → is_nan (exp_of (ends r cs es h).d.x.y) ≡ false → Within (fit_of r cs es).rate r.rate
-  rate_within t h n = rw (ap (λ f. f.rate) (ends r cs es h).is) (clamped (ends r cs es h).d.x.y r.rate (rate_boxed t) n)
+  pub rate_within : admitted_of r cs es ≡ true → (f : Fit) (h : fit_of r cs es ≡ Ok f) → is_nan (exp_of (ends r cs es f h).d.x.y) ≡ false → Within f.rate r.rate
+  rate_within t f h n = subst (λ g. Within g.rate r.rate) (sym (ends r cs es f h).is) (clamped (ends r cs es f h).d.x.y r.rate (rate_boxed t) n)

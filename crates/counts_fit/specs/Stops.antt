@@ -1,13 +1,13 @@
--- How a fit stops: crates/descent's rule, of the record that the code returns.
-use Rattle.std.specs.Prelude.{◌≡◌, List, ℕ, Float}
-use Rattle.std.proofs.Common.{ap}
-use Rattle.work.specs.declared.Ending.TheVariants.{Answered}
+-- How a fit stops: crates/descent's rule, of what the code returns.
+use Rattle.std.specs.Prelude.{◌≡◌, List, ℕ, Float, Ok}
+use Rattle.std.proofs.Common.{sym, subst}
 use Rattle.work.specs.Given.{Always, holds, refuses, tested, passed}
 use Rattle.descent.specs.Stopping.{ByRule, by_rule, stops}
 use Rattle.exposure.specs.declared.request.Request.{Request}
 use Rattle.exposure.specs.Request.{admitted_of}
 use Rattle.exposure.specs.Passed.{admitted_passed}
 use Rattle.plane.specs.Plane.{plane_of}
+use Rattle.counts_fit.specs.declared.report.Fit.{Fit}
 use Rattle.counts_fit.specs.Fit.{Report, start_of, plane_for, value_at, fit, fit_of}
 use Rattle.counts_fit.specs.Answers.{answered}
 
@@ -23,7 +23,7 @@ module _ (r : Request) (cs : List ℕ) (es : List Float) where
       (λ t. refuses)
 
   -- Every answered fit: Converged exactly if its norm is at most the tolerance, and so on; both counts within their limits.
-  pub answered_stops : (fit_of r cs es).end ≡ Answered → ByRule (fit_of r cs es).status (fit_of r cs es).norm r.tolerance (fit_of r cs es).evaluations.0 r.evaluations.0 (fit_of r cs es).iterations.0 r.iterations.0
-  answered_stops h =
-      let a = answered r cs es (λ t. tt) fit_stops h in
-      rw (ap (λ f. f.status) a.is, ap (λ f. f.norm) a.is, ap (λ f. f.evaluations.0) a.is, ap (λ f. f.iterations.0) a.is) a.has
+  pub answered_stops : (f : Fit) → fit_of r cs es ≡ Ok f → ByRule f.status f.norm r.tolerance f.evaluations.0 r.evaluations.0 f.iterations.0 r.iterations.0
+  answered_stops f h =
+      let a = answered r cs es (λ t. tt) fit_stops f h in
+      subst (λ g. ByRule g.status g.norm r.tolerance g.evaluations.0 r.evaluations.0 g.iterations.0 r.iterations.0) (sym a.is) a.has

@@ -1,13 +1,13 @@
 -- The fit that code drives among four coordinates is the fit of the definition, in two, and without a limit.
-use Rattle.std.specs.Prelude.{◌≡◌, refl, true, false, List, ℕ, ◌*◌, ◌≤◌, length, Float}
+use Rattle.std.specs.Prelude.{◌≡◌, refl, true, false, List, ℕ, ◌*◌, ◌≤◌, length, Float, None, Ok, Err}
 use Rattle.std.proofs.Math.Path.{ap, sym}
 use Rattle.std.proofs.Common.{◌∙◌}
 use Rattle.std.proofs.Math.Nat.{add-zero}
 use native.Mathlib.Omega.{arith}
 use Rattle.elementary.specs.Log.{log_of}
-use Rattle.work.specs.declared.Ending.TheVariants.{Answered, InvalidInput}
-use Rattle.work.specs.Ended.{Ended, done, stopped, short, invalid, domain}
-use Rattle.work.specs.Work.{Work, ret, ◌>>=◌, metered, run, listed, told}
+use Rattle.work.specs.declared.Refusal.TheVariants.{InvalidInput}
+use Rattle.work.specs.Ended.{Ended, done, stopped, short}
+use Rattle.work.specs.Work.{Work, ret, ◌>>=◌, metered, run, listed}
 use Rattle.work.specs.Metered.{after, metered_bind}
 use Rattle.work.specs.AtMost.{AtMost, rets, stops, either, both}
 use Rattle.work.specs.Given.{Always, of_metered}
@@ -21,7 +21,7 @@ use Rattle.exposure.specs.declared.request.Request.{Request}
 use Rattle.exposure.specs.Rows.{events_of}
 use Rattle.exposure.specs.Request.{product_of, admitted_of}
 use Rattle.exposure.specs.Passed.{admitted_passed}
-use Rattle.counts.specs.Objective.{in_full}
+use Rattle.counts.specs.Objective.{in_full, refused_of}
 use Rattle.counts.specs.Counted.{evaluate_most, whole_is}
 use Rattle.stepper.specs.Machine.{problem_of}
 use Rattle.plane.specs.Plane.{Spot, plane_of}
@@ -30,13 +30,12 @@ use Rattle.plane.specs.Mirror.{across, end_across, metered_across, descents, mir
 use Rattle.plane.specs.Spends.{asks_most, through_most}
 use Rattle.course.specs.Course.{shown}
 use Rattle.course.specs.Drives.{course_of}
-use Rattle.counts_fit.specs.Fit.{start_of, plane_for, value_at, report_of, fit, to_fit, no_report, refused_of, fit_of}
+use Rattle.counts_fit.specs.Fit.{start_of, plane_for, value_at, report_of, fit, to_fit, fit_by, fit_of}
 use Rattle.counts_fit.specs.Among.{value_among, enough, run_of, reported_of}
 use Rattle.counts_fit.specs.Valued.{same_across, good_values}
 
 -- what an answered descent reports, its value good
-report_across : (r : Request) (n u : ℕ) (d : Descended Spot Planar) (q : Open (Asked (List Float))) → Good d.v → reported_of r n (shown 0 (record { ended = done (across placed widened_of d); used = u; asked = q })) ≡ to_fit Answered u (report_of r n d)
-unfolding reported_of
+report_across : (r : Request) (n u : ℕ) (d : Descended Spot Planar) (q : Open (Asked (List Float))) → Good d.v → reported_of r n (shown 0 None (record { ended = done (across placed widened_of d); used = u; asked = q })) ≡ Ok (to_fit u (report_of r n d))
 report_across r n u d q g = rw ((alike (plane_for r)).norm d.x d.v g)
 
 module _ (r : Request) (cs : List ℕ) (es : List Float) where
@@ -74,24 +73,23 @@ module _ (r : Request) (cs : List ℕ) (es : List Float) where
 
   -- ---- the whole
 
-  by_ending : (e : Ended (Descended Spot Planar)) (u : ℕ) (e' : Ended (Descended (List Float) Totals)) (u' : ℕ) (q : Open (Asked (List Float))) → ((d : Descended Spot Planar) → e ≡ done d → Good d.v) → e' ≡ end_across (across placed widened_of) e → u' ≡ u → reported_of r (length cs) (shown 0 (record { ended = e'; used = u'; asked = q })) ≡ told to_fit no_report (after e u (λ d n. metered log_of enough n (ret (report_of r (length cs) d))))
+  by_ending : (e : Ended (Descended Spot Planar)) (u : ℕ) (e' : Ended (Descended (List Float) Totals)) (u' : ℕ) (q : Open (Asked (List Float))) → ((d : Descended Spot Planar) → e ≡ done d → Good d.v) → e' ≡ end_across (across placed widened_of) e → u' ≡ u → reported_of r (length cs) (shown 0 None (record { ended = e'; used = u'; asked = q })) ≡ fit_by (after e u (λ d n. metered log_of enough n (ret (report_of r (length cs) d))))
   unfolding metered
   by_ending (done d) u e' u' q g h k = rw (h, k) (report_across r (length cs) u d q (g d refl))
-  by_ending (stopped invalid) u e' u' q g h k = rw (h, k) (unfold reported_of in refl)
-  by_ending (stopped (domain i)) u e' u' q g h k = rw (h, k) (unfold reported_of in refl)
-  by_ending short u e' u' q g h k = rw (h, k) (unfold reported_of in refl)
+  by_ending (stopped i) u e' u' q g h k = rw (h, k)
+  by_ending short u e' u' q g h k = rw (h, k)
 
   fit_is : admitted_of r cs es ≡ true → (planar >>= λ d. ret (report_of r (length cs) d)) ≡ fit r cs es
   unfolding fit
   fit_is h = rw h
 
   -- an admitted fit is the report of what its descent came to
-  pub fit_after : admitted_of r cs es ≡ true → fit_of r cs es ≡ told to_fit no_report (after (metered log_of enough 0 planar).ended (metered log_of enough 0 planar).used (λ d n. metered log_of enough n (ret (report_of r (length cs) d))))
+  pub fit_after : admitted_of r cs es ≡ true → fit_of r cs es ≡ fit_by (after (metered log_of enough 0 planar).ended (metered log_of enough 0 planar).used (λ d n. metered log_of enough n (ret (report_of r (length cs) d))))
   unfolding fit_of
   fit_after h =
       let b = whole_is enough (fit r cs es) (fit_most (admitted_passed r cs es h).controls.some) (within_enough h) in
-      ap (λ w. told to_fit no_report w) b
-      ∙ (ap (λ w. told to_fit no_report (metered log_of enough 0 w)) (sym (fit_is h)) ∙ ap (λ w. told to_fit no_report w) (metered_bind log_of enough 0 planar (λ d. ret (report_of r (length cs) d))))
+      ap (λ w. fit_by w) b
+      ∙ (ap (λ w. fit_by (metered log_of enough 0 w)) (sym (fit_is h)) ∙ ap (λ w. fit_by w) (metered_bind log_of enough 0 planar (λ d. ret (report_of r (length cs) d))))
 
   pub admitted_is : admitted_of r cs es ≡ true → reported_of r (length cs) (run_of cs es (plan_of (plane_for r)) (placed (start_of r))) ≡ fit_of r cs es
   unfolding run_of course_of
@@ -102,6 +100,6 @@ module _ (r : Request) (cs : List ℕ) (es : List Float) where
       ∙ sym (fit_after h)
 
   -- A request or rows that fail any check: InvalidInput, with count 0.
-  pub unfit_refused : admitted_of r cs es ≡ false → fit_of r cs es ≡ refused_of InvalidInput 0
+  pub unfit_refused : admitted_of r cs es ≡ false → fit_of r cs es ≡ Err (refused_of InvalidInput 0)
   unfolding fit_of fit in_full run listed
   unfit_refused h = rw h

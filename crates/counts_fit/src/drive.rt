@@ -1,55 +1,63 @@
-// The descent of the Gamma-Poisson objective: ask the stepper for a point, evaluate there, tell it the value. The pair (1, 3) of its coordinates moves.
+// The descent of the Gamma-Poisson objective. The pair (1, 3) of its coordinates moves.
 ghost use Rattle.std.specs.Prelude.{◌≡◌, ◌≤◌, ◌*◌, length};
 ghost use Rattle.exposure.specs.Rows.{events_of};
-ghost use Rattle.counts_fit.specs.Among.{value_at_of, run_of};
+ghost use Rattle.counts_fit.specs.Among.{answered_of, answer_at, run_of};
+ghost use Rattle.counts_fit.specs.Valued.{Ready, Known, counts_laws};
 
-use course::Course;
+use counts::Refused;
+use counts::sum::Value;
+use course::{Answer, Course, NoValue, Objective};
 use stepper::Plan;
-use value::Totals;
-use work::Ending;
 
 #[derive(Clone, Copy)]
-pub struct Value {
-    pub end: Ending,
-    pub used: u64,
-    pub v: Totals,
+struct Rows<'a> {
+    counts: &'a [u32],
+    exposures: &'a [f64],
 }
 
-fn value_at(x: [f64; 4], counts: &[u32], exposures: &[f64]) -> Value
-    requires { (length counts.now ≤ 4096) × (length counts.now ≤ length exposures.now) }
-    ensures { result ≡ value_at_of counts.now exposures.now x }
+fn answered(r: Result<Value, Refused>) -> Answer
+    ensures { result ≡ answered_of r }
 {
-    let o = counts::sum::evaluated(x[1], x[3], counts, exposures);
-    let end = o.end;
-    let v = planar::widened(o.v);
-    Value {
-        end,
-        used: o.passes,
-        v,
+    match r {
+        Ok(o) => Answer {
+            used: o.passes.0,
+            value: Ok(planar::widened(o.v)),
+        },
+        Err(e) => {
+            let none = NoValue {
+                refusal: e.refusal,
+                part: None,
+            };
+            Answer {
+                used: e.passes.0,
+                value: Err(none),
+            }
+        }
     }
 }
 
-// What the passes of all evaluations come to was checked, so the sum needs no test.
+// What the passes of all evaluations come to was checked, so no limit is met.
+impl Objective for Rows<'_> {
+    ghost answer = { λ o l x. answer_at o.counts.now o.exposures.now l x };
+
+    ghost ready = { λ o l. Ready o.counts.now o.exposures.now l };
+
+    ghost known = { λ o p l s u. Known o.counts.now o.exposures.now p l s u };
+
+    ghost laws = { counts_laws (λ o. o.counts.now) (λ o. o.exposures.now) };
+
+    fn evaluate(&self, x: [f64; 4], limit: u64) -> Answer {
+        answered(counts::sum::evaluated(x[1], x[3], self.counts, self.exposures))
+    }
+}
+
 pub fn run(counts: &[u32], exposures: &[f64], p: Plan, x: [f64; 4]) -> Course
-    requires { (length counts.now ≤ 4096) × (length counts.now ≤ length exposures.now) × (1 ≤ p.most.0) × (p.most.0 * events_of counts.now ≤ 20000000) }
+    requires few { length counts.now ≤ 4096 }
+    requires paired { length counts.now ≤ length exposures.now }
+    requires some { 1 ≤ p.most.0 }
+    requires within { p.most.0 * events_of counts.now ≤ 20000000 }
     ensures { result ≡ run_of counts.now exposures.now p x }
 {
-    let mut s = stepper::begin(x, 0);
-    let mut used: u64 = 0;
-    loop {
-        if !stepper::awaits(s) {
-            return course::stopped(used, s);
-        }
-        let next = s.next;
-        let o = value_at(next, counts, exposures);
-        let spent = used + o.used;
-        let end = o.end;
-        if work::refused(end) {
-            return course::refusal(end, spent, s);
-        }
-        let v = o.v;
-        let t = stepper::tell(p, s, v);
-        s = t;
-        used = spent;
-    }
+    let o = Rows { counts, exposures };
+    course::run(&o, p, 20000000, x, 0)
 }

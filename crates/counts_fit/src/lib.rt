@@ -4,5 +4,6 @@
 pub mod drive;
 pub mod report;
 
+pub use counts::Refused;
 pub use exposure::request::{Bounds, Request};
 pub use report::{Fit, fit_gamma_poisson};

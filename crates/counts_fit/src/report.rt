@@ -3,21 +3,22 @@ ghost use Rattle.std.specs.Prelude.{◌≡◌, true};
 ghost use Rattle.elementary.specs.Log.{log_of};
 ghost use Rattle.planar.specs.Planar.{among_four_of};
 ghost use Rattle.exposure.specs.Request.{admitted_of};
+ghost use Rattle.counts.specs.Objective.{refused_of};
 ghost use Rattle.plane.specs.Among.{placed, plan_of};
-ghost use Rattle.counts_fit.specs.Fit.{low_of, high_of, start_of, plane_for, natural_of, on_bound_of, refused_of, fit_of};
-ghost use Rattle.counts_fit.specs.Among.{reported_of};
+ghost use Rattle.counts_fit.specs.Fit.{start_of, plane_for, natural_of, on_bound_of, fit_of};
+ghost use Rattle.counts_fit.specs.Among.{region_of, report_from, reported_of};
 
-use counts::Passes;
-use course::Course;
+use counts::{Passes, Refused};
+use course::{Course, Stopped};
 use descent::Status;
 use exposure::request::{Bounds, Request};
+use step::Region;
 use stepper::Plan;
-use work::{Ending, FitEvaluations, Iterations};
+use work::{FitEvaluations, Iterations, Refusal};
 
 // `active` marks shape and rate where their logarithm lies on that of a bound.
 #[derive(Clone, Copy)]
 pub struct Fit {
-    pub end: Ending,
     pub status: Status,
     pub shape: f64,
     pub rate: f64,
@@ -30,21 +31,12 @@ pub struct Fit {
     pub active: [bool; 2],
 }
 
-fn refusal(end: Ending, passes: u64) -> Fit
-    ensures { result ≡ refused_of end passes }
+fn refusal(why: Refusal, passes: u64) -> Refused
+    ensures { result ≡ refused_of why passes }
 {
-    Fit {
-        end,
-        status: Status::NoStatus,
-        shape: 0.0,
-        rate: 0.0,
-        nll: 0.0,
-        norm: 0.0,
-        evaluations: FitEvaluations(0),
-        iterations: Iterations(0),
+    Refused {
+        refusal: why,
         passes: Passes(passes),
-        rows: 0,
-        active: [false; 2],
     }
 }
 
@@ -57,50 +49,40 @@ fn by_logs(shape: f64, rate: f64) -> [f64; 4]
     planar::among_four(x, y)
 }
 
-fn low(r: Request) -> [f64; 4]
-    ensures { result ≡ placed (low_of r) }
+fn region(r: Request) -> Region
+    ensures { result ≡ region_of r }
 {
-    let shape = r.shape;
-    let rate = r.rate;
-    by_logs(shape.low, rate.low)
-}
-
-fn high(r: Request) -> [f64; 4]
-    ensures { result ≡ placed (high_of r) }
-{
-    let shape = r.shape;
-    let rate = r.rate;
-    by_logs(shape.high, rate.high)
+    Region {
+        lo: by_logs(r.shape.low, r.rate.low),
+        hi: by_logs(r.shape.high, r.rate.high),
+    }
 }
 
 fn start(r: Request) -> [f64; 4]
     ensures { result ≡ placed (start_of r) }
 {
-    let shape = r.shape;
-    let rate = r.rate;
-    by_logs(shape.start, rate.start)
+    by_logs(r.shape.start, r.rate.start)
 }
 
 fn plan(r: Request) -> Plan
     ensures { result ≡ plan_of (plane_for r) }
 {
-    let most = r.evaluations;
-    let turns = r.iterations;
     Plan {
-        lo: low(r),
-        hi: high(r),
+        region: region(r),
         tolerance: r.tolerance,
-        most,
-        turns,
+        most: r.evaluations,
+        turns: r.iterations,
     }
 }
 
+#[tactic(auto, unfolding(crate::specs::Fit::natural_of))]
 fn natural(x: f64, r: Bounds) -> f64
     ensures { result ≡ natural_of x r }
 {
     num::clamp(elementary::exp::exp(x), r.low, r.high)
 }
 
+#[tactic(auto, unfolding(crate::specs::Fit::on_bound_of))]
 fn on_bound(x: f64, r: Bounds) -> bool
     ensures { result ≡ on_bound_of x r }
 {
@@ -109,44 +91,40 @@ fn on_bound(x: f64, r: Bounds) -> bool
     num::either(x == low, x == high)
 }
 
-fn reported(r: Request, n: u64, d: Course) -> Fit
-    ensures { result ≡ reported_of r n d }
+// Of n rows, where the descent stopped.
+fn report(r: Request, n: u64, used: u64, d: Stopped) -> Fit
+    ensures { result ≡ report_from r n used d }
 {
-    let end = d.end;
-    let used = d.used;
     let x = d.x;
     let v = d.v;
     let a = x[1];
     let b = x[3];
-    if work::refused(end) {
-        return refusal(end, used);
-    }
-    let status = d.status;
-    let evaluations = d.evaluations;
-    let iterations = d.iterations;
-    let first = r.shape;
-    let second = r.rate;
-    let shape = natural(a, first);
-    let rate = natural(b, second);
-    let norm = trial::norm_at(low(r), high(r), x, v);
-    let shape_active = on_bound(a, first);
-    let rate_active = on_bound(b, second);
+    let first = on_bound(a, r.shape);
+    let second = on_bound(b, r.rate);
     Fit {
-        end: Ending::Answered,
-        status,
-        shape,
-        rate,
+        status: d.status,
+        shape: natural(a, r.shape),
+        rate: natural(b, r.rate),
         nll: v.nll,
-        norm,
-        evaluations,
-        iterations,
+        norm: trial::norm_at(region(r), x, v),
+        evaluations: d.evaluations,
+        iterations: d.iterations,
         passes: Passes(used),
         rows: n,
-        active: [shape_active, rate_active],
+        active: [first, second],
     }
 }
 
-fn fit_admitted(r: Request, counts: &[u32], exposures: &[f64]) -> Fit
+fn reported(r: Request, n: u64, d: Course) -> Result<Fit, Refused>
+    ensures { result ≡ reported_of r n d }
+{
+    match d.end {
+        Ok(s) => Ok(report(r, n, d.used, s)),
+        Err(e) => Err(refusal(e.refusal, d.used)),
+    }
+}
+
+fn fit_admitted(r: Request, counts: &[u32], exposures: &[f64]) -> Result<Fit, Refused>
     requires { admitted_of r counts.now exposures.now ≡ true }
     ensures { result ≡ fit_of r counts.now exposures.now }
 {
@@ -155,11 +133,11 @@ fn fit_admitted(r: Request, counts: &[u32], exposures: &[f64]) -> Fit
     reported(r, n as u64, d)
 }
 
-pub fn fit_gamma_poisson(r: Request, counts: &[u32], exposures: &[f64]) -> Fit
-    ensures { (result ≡ fit_of r counts.now exposures.now) × (counts.now ≡ counts.now) × (exposures.now ≡ exposures.now) }
+pub fn fit_gamma_poisson(r: Request, counts: &[u32], exposures: &[f64]) -> Result<Fit, Refused>
+    ensures { result ≡ fit_of r counts.now exposures.now }
 {
     if !exposure::request::admitted(r, counts, exposures) {
-        return refusal(Ending::InvalidInput, 0);
+        return Err(refusal(Refusal::InvalidInput, 0));
     }
     fit_admitted(r, counts, exposures)
 }

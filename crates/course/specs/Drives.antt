@@ -1,93 +1,113 @@
--- The laws of a loop that drives the stepper, whatever the objective: it asks for a point, evaluates there, and tells the value. r is what the loop answers.
-use Rattle.std.proofs.Math.Path.{◌≡◌, refl}
-use Rattle.std.proofs.Common.{sym, ◌∙◌, zero-le, arith}
-use Rattle.std.specs.Prelude.{true, false, cond, List, ℕ, ◌+◌, ◌-◌, ◌≤◌, Float}
-use Rattle.work.specs.declared.Ending.{Ending}
-use Rattle.work.specs.Ended.{Ended, done, stopped, short, invalid, domain, end_of, value_or, is_refused}
-use Rattle.work.specs.Work.{Work, ask, metered}
-use Rattle.work.specs.Metered.{within}
+-- The laws of a loop that drives the stepper, whatever the objective: it asks for a point, evaluates there, and tells the value.
+use Rattle.std.proofs.Math.Path.{◌≡◌, refl, ap, sym}
+use Rattle.std.proofs.Common.{◌∙◌}
+use Rattle.std.specs.Prelude.{true, false, List, [], ℕ, ◌+◌, ◌-◌, ◌≤◌, Float, Option, None, Result, Ok, Err}
+use Rattle.work.specs.Impossible.{impossible}
+use Rattle.work.specs.Answer.{refusal_of}
+use Rattle.work.specs.Ended.{Why, Ended, done, stopped, short}
+use Rattle.work.specs.Work.{Work, ret, stop, ask, metered}
 use Rattle.work.specs.Share.{share}
-use Rattle.descent.specs.Status.{awaits_of}
-use Rattle.work.specs.Through.{Driven, heard, driven}
-use Rattle.descent.specs.Descent.{Asked, Descended, descent}
+use Rattle.work.specs.Through.{heard, driven}
+use Rattle.descent.specs.declared.Status.{Status}
+use Rattle.descent.specs.Descent.{Asked, descent}
 use Rattle.value.specs.declared.Totals.{Totals}
-use Rattle.value.specs.Totals.{no_totals}
+use Rattle.stepper.specs.declared.Phase.TheVariants.{Over}
 use Rattle.stepper.specs.declared.Plan.{Plan}
 use Rattle.stepper.specs.declared.Stepper.{Stepper}
-use Rattle.stepper.specs.Machine.{problem_of, begin_of, tell_of}
+use Rattle.stepper.specs.Machine.{awaits_of, problem_of, begin_of, tell_of}
 use Rattle.trial.specs.Watch.{watch_of}
 use Rattle.stepper.specs.Stands.{Rest, Stands, over, awaits, begins}
+use Rattle.course.specs.declared.NoValue.{NoValue}
+use Rattle.course.specs.declared.Answer.{Answer}
 use Rattle.course.specs.declared.Course.{Course}
-use Rattle.course.specs.Course.{refusal_of, stopped_of, shown}
+use Rattle.course.specs.Course.{value_in, answer_in, stopped_at, refused_at, stopped_of, refused_of, shown}
 
--- what follows a value, at the code's answers
-hearing : (n : ℕ) (q : Asked (List Float)) (e : Ended Totals) (u : ℕ) (go : Totals → ℕ → Driven (Asked (List Float)) (Descended (List Float) Totals)) → shown n (heard q e u go) ≡ cond (is_refused (end_of e)) (refusal_of (end_of e) u q.begun (watch_of n q.trials)) (shown n (go (value_or no_totals e) u))
-hearing n q (done c) u go = refl
-hearing n q (stopped invalid) u go = refl
-hearing n q (stopped (domain r)) u go = refl
-hearing n q short u go = refl
+-- What an objective proves of its answers: none uses more than its limit, and what is known between two evaluations allows the next and is kept by it.
+pub record Lawful {O : Type 0} (answer : O → ℕ → List Float → Answer) (ready : O → ℕ → Type 0) (known : O → Plan → ℕ → Stepper → ℕ → Type 0) : Type 0 where
+  pub within : (o : O) (l : ℕ) (x : List Float) → ready o l → (answer o l x).used ≤ l
+  pub allows : (o : O) (p : Plan) (l : ℕ) (s : Stepper) (u : ℕ) → known o p l s u → awaits_of s.phase ≡ true → ready o (l - u)
+  pub keeps : (o : O) (p : Plan) (l : ℕ) (s : Stepper) (u : ℕ) (c : Totals) → known o p l s u → awaits_of s.phase ≡ true → (answer o (l - u) s.next).value ≡ Ok c → known o p l (tell_of p s c) (u + (answer o (l - u) s.next).used)
 
-module _ {E Y : Type 0} (at : E → Y) (ev : List Float → Work E Y Totals) (l : ℕ) where
-  -- what an evaluation at x gives with `used` behind it: its ending, its count and its value
-  pub record Valued (x : List Float) (used : ℕ) (end : Ending) (count : ℕ) (c : Totals) : Type 0 where
-    pub ending : end ≡ end_of (metered at (l - used) 0 (ev x)).ended
-    pub counts : count ≡ (metered at (l - used) 0 (ev x)).used
-    pub value : c ≡ value_or no_totals (metered at (l - used) 0 (ev x)).ended
+-- ---- what a descent comes to whose questions are answered so, each under what is left of the limit l
+module _ (answer : ℕ → List Float → Answer) (l n : ℕ) where
+  abbrev pub after_value : Asked (List Float) → ℕ → Result Totals NoValue → (Totals → Course) → Course
+  after_value q u (Ok c) go = go c
+  after_value q u (Err e) go = refused_at u (watch_of n q.trials) q.begun e.part e.refusal
 
-  -- the count stays within the limit
-  pub fits : (x : List Float) (used : ℕ) (end : Ending) (count : ℕ) (c : Totals) → Valued x used end count c → used ≤ l → used + count ≤ l
-  fits x used end count c v h = rw v.counts (omega (arith, within at (l - used) 0 (ev x) zero-le))
+  unfoldable pub comes_to : ℕ → Rest → Course
+  comes_to u (ret d) = stopped_at u (watch_of n d.trials) d
+  comes_to u (stop r) = refused_at u (watch_of n []) false None (refusal_of r)
+  comes_to u (ask q k) = let a = answer (l - u) q.at in after_value q (u + a.used) a.value (λ c. comes_to (u + a.used) (k c))
 
-  module _ (p : Plan) (n : ℕ) where
-    abbrev pub runs : ℕ → Rest → Course
-    runs u w = shown n (driven at (λ q. ev q.at) l u w)
+  unfoldable pub course_by : Plan → List Float → Course
+  course_by p x = comes_to 0 (descent (problem_of p) x)
 
-    unfoldable pub course_of : List Float → Course
-    course_of x = runs 0 (descent (problem_of p) x)
-
-    -- with `used` behind it, the state comes to the whole
-    pub record Left (whole : Course) (s : Stepper) (used : ℕ) : Type 0 where
+  -- ---- what the loop goes by: with u behind it, the state comes to the whole
+  module _ (p : Plan) where
+    pub record Left (whole : Course) (s : Stepper) (u : ℕ) : Type 0 where
       pub rest : Rest
       pub stands : Stands p n s rest
-      pub makes : runs used rest ≡ whole
+      pub makes : comes_to u rest ≡ whole
 
-    pub starts : (x : List Float) (s : Stepper) → s ≡ begin_of x n → Left (course_of s.next) s 0
-    unfolding course_of
+    pub starts : (x : List Float) (s : Stepper) → s ≡ begin_of x n → Left (course_by p x) s 0
+    unfolding course_by
     starts x s e = rw e (record { rest = _; stands = begins p n x; makes = refl })
 
-    ends : (s : Stepper) (used : ℕ) (w : Rest) → Stands p n s w → awaits_of s.phase.status ≡ false → stopped_of used s ≡ runs used w
-    unfolding driven
-    ends s used _ (over ts h e) t = rw e
-    ends s used _ (awaits h e k) t = let z : ◌≡◌ {A = ℕ} 0 1 = cc in absurd (omega arith)
+    module _ (whole : Course) (s : Stepper) (u : ℕ) (i : Left whole s u) where
+      pub run_ends : (status : Status) → s.phase ≡ Over status → stopped_of status u s ≡ whole
+      unfolding comes_to
+      run_ends status t = by i.rest i.stands ∙ i.makes where
+        by : (w : Rest) → Stands p n s w → stopped_of status u s ≡ comes_to u w
+        by _ (over found ts h e) = let q : found ≡ status = cc in rw (e, q)
+        by _ (awaits h e k) = let z : awaits_of (Over status) ≡ true = rw t at h in impossible (cc)
 
-    pub hears : (used : ℕ) (q : Asked (List Float)) (k : Totals → Rest) (end : Ending) (count : ℕ) (c : Totals) → Valued q.at used end count c → runs used (ask q k) ≡ cond (is_refused end) (refusal_of end (used + count) q.begun (watch_of n q.trials)) (runs (used + count) (k c))
-    unfolding driven
-    hears used q k end count c v =
-        let m = metered at l used (ev q.at) in
-        hearing n q m.ended m.used (λ c u. driven at (λ q. ev q.at) l u (k c)) ∙ rw (share at (ev q.at) l used, v.ending, v.counts, v.value)
+      pub run_stops : awaits_of s.phase ≡ true → (a : Answer) → a ≡ answer (l - u) s.next → (e : NoValue) → a.value ≡ Err e → refused_of e (u + a.used) s ≡ whole
+      unfolding comes_to
+      run_stops t a g e y = by i.rest i.stands ∙ i.makes where
+        by : (w : Rest) → Stands p n s w → refused_of e (u + a.used) s ≡ comes_to u w
+        by _ (over found ts h w) = let z : awaits_of (Over found) ≡ true = rw h at t in impossible (cc)
+        by _ (awaits h w k) = rw (w, ← g, y)
 
-    -- told a value, or refused it
-    record Turn (s : Stepper) (used : ℕ) (end : Ending) (count : ℕ) (c : Totals) (w : Rest) : Type 0 where
-      stops : is_refused end ≡ true → refusal_of end (used + count) s.phase.begun s.watch ≡ runs used w
-      goes : is_refused end ≡ false → Left (runs used w) (tell_of p s c) (used + count)
+      pub run_turn : awaits_of s.phase ≡ true → (a : Answer) → a ≡ answer (l - u) s.next → (c : Totals) → a.value ≡ Ok c → (q : Stepper) → q ≡ tell_of p s c → Left whole q (u + a.used)
+      unfolding comes_to
+      run_turn t a g c y q r = by i.rest i.stands i.makes where
+        by : (w : Rest) → Stands p n s w → comes_to u w ≡ whole → Left whole q (u + a.used)
+        by _ (over found ts h e) m = let z : awaits_of (Over found) ≡ true = rw h at t in impossible (cc)
+        by _ (awaits {k = k} h e go) m = rw r (record { rest = k c; stands = go c; makes = rw (← g, y) at m })
 
-    turns : (s : Stepper) (used : ℕ) (end : Ending) (count : ℕ) (c : Totals) (w : Rest) → Stands p n s w → awaits_of s.phase.status ≡ true → Valued s.next used end count c → Turn s used end count c w
-    turns s used end count c _ (over ts h e) t v = let z : ◌≡◌ {A = ℕ} 0 1 = cc in absurd (omega arith)
-    turns s used end count c _ (awaits {ts = ts} {k = k} h e g) t v =
-        let q : Asked (List Float) = record { at = s.next; begun = s.phase.begun; trials = ts } in
-        let step = hears used q k end count c v in
-        record { stops = λ y. rw e (sym (rw y at step)); goes = λ y. record { rest = k c; stands = g c; makes = sym (rw y at step) } }
+-- ---- the same where each answer is what a computation comes to: `after u w` is the part at which the rest w is refused, with u behind it
+module _ {E Y : Type 0} (at : E → Y) (ev : List Float → Work E Y Totals) (l n : ℕ) where
+  -- the descent as one computation, under the limit, with the n-th trial watched
+  unfoldable pub course_of : Plan → Option ℕ → List Float → Course
+  course_of p part x = shown n part (driven at (λ q. ev q.at) l 0 (descent (problem_of p) x))
 
-    -- ---- what the loop goes by; b is the state that it began with
-    module _ (x : List Float) (b : Stepper) (g : b ≡ begin_of x n) (s : Stepper) (used : ℕ) (i : Left (course_of b.next) s used) where
-      whole_is : runs used i.rest ≡ course_of x
-      whole_is = rw g at i.makes
+  module _ (part : ℕ → List Float → Option ℕ) (after : ℕ → Rest → Option ℕ) where
+    pub record Parts : Type 0 where
+      pub at_stop : (u : ℕ) (r : Why) → after u (stop r) ≡ None
+      pub at_value : (u : ℕ) (q : Asked (List Float)) (k : Totals → Rest) (c : Totals) → (metered at (l - u) 0 (ev q.at)).ended ≡ done c → after u (ask q k) ≡ after (u + (metered at (l - u) 0 (ev q.at)).used) (k c)
+      pub at_stopped : (u : ℕ) (q : Asked (List Float)) (k : Totals → Rest) (r : Why) → (metered at (l - u) 0 (ev q.at)).ended ≡ stopped r → after u (ask q k) ≡ part (l - u) q.at
+      pub at_short : (u : ℕ) (q : Asked (List Float)) (k : Totals → Rest) → (metered at (l - u) 0 (ev q.at)).ended ≡ short → after u (ask q k) ≡ part (l - u) q.at
 
-      pub run_ends : (r : Course) → awaits_of s.phase.status ≡ false → r ≡ stopped_of used s → r ≡ course_of x
-      run_ends r t u = u ∙ (ends s used i.rest i.stands t ∙ whole_is)
+    module _ (parts : Parts) (answer : ℕ → List Float → Answer) (is : (l : ℕ) (x : List Float) → answer l x ≡ answer_in (metered at l 0 (ev x)) (part l x)) where
+      module _ (u : ℕ) (q : Asked (List Float)) (k : Totals → Rest) where
+        abbrev spent : ℕ
+        spent = u + (metered at (l - u) 0 (ev q.at)).used
 
-      pub run_stops : (end : Ending) (count : ℕ) (c : Totals) → awaits_of s.phase.status ≡ true → Valued s.next used end count c → (r : Course) → is_refused end ≡ true → r ≡ refusal_of end (used + count) s.phase.begun s.watch → r ≡ course_of x
-      run_stops end count c t v r y u = u ∙ ((turns s used end count c i.rest i.stands t v).stops y ∙ whole_is)
+        by_end : ((c : Totals) → comes_to answer l n spent (k c) ≡ shown n (after spent (k c)) (driven at (λ q. ev q.at) l spent (k c))) → (e : Ended Totals) → (metered at (l - u) 0 (ev q.at)).ended ≡ e → after_value answer l n q spent (value_in e (part (l - u) q.at)) (λ c. comes_to answer l n spent (k c)) ≡ shown n (after u (ask q k)) (heard q e spent (λ c m. driven at (λ q. ev q.at) l m (k c)))
+        by_end go (done c) h = go c ∙ ap (λ o. shown n o (driven at (λ q. ev q.at) l spent (k c))) (sym (parts.at_value u q k c h))
+        by_end go (stopped r) h = rw (parts.at_stopped u q k r h)
+        by_end go short h = rw (parts.at_short u q k h)
 
-    pub run_turn : (whole : Course) (s : Stepper) (used : ℕ) → Left whole s used → (end : Ending) (count : ℕ) (c : Totals) → awaits_of s.phase.status ≡ true → Valued s.next used end count c → (q : Stepper) → is_refused end ≡ false → q ≡ tell_of p s c → Left whole q (used + count)
-    run_turn whole s used i end count c t v q y u = rw (u, ← i.makes) ((turns s used end count c i.rest i.stands t v).goes y)
+      rest_is : (u : ℕ) (w : Rest) → comes_to answer l n u w ≡ shown n (after u w) (driven at (λ q. ev q.at) l u w)
+      unfolding comes_to driven
+      rest_is u (ret d) = refl
+      rest_is u (stop r) = rw (parts.at_stop u r)
+      rest_is u (ask q k) = rw (is (l - u) q.at, share at (ev q.at) l u) (by_end u q k (λ c. rest_is (u + (metered at (l - u) 0 (ev q.at)).used) (k c)) (metered at (l - u) 0 (ev q.at)).ended refl)
+
+      pub course_is : (p : Plan) (x : List Float) → course_by answer l n p x ≡ course_of p (after 0 (descent (problem_of p) x)) x
+      unfolding course_by course_of
+      course_is p x = rest_is 0 (descent (problem_of p) x)
+
+-- where no part is named
+pub no_parts : {E Y : Type 0} (at : E → Y) (ev : List Float → Work E Y Totals) (l n : ℕ) → Parts at ev l n (λ l x. None) (λ u w. None)
+no_parts at ev l n = record { at_stop = λ u r. refl; at_value = λ u q k c h. refl; at_stopped = λ u q k r h. refl; at_short = λ u q k h. refl }

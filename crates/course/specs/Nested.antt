@@ -1,8 +1,8 @@
 -- A computation whose questions are answered by computations that ask in their turn: as one computation of the inner questions, and what a run of it comes to.
 use Rattle.std.specs.Prelude.{◌≡◌, true, false, ℕ, ◌+◌, ◌-◌}
 use Rattle.std.proofs.Math.Path.{refl, fun_ext}
-use Rattle.std.proofs.Common.{ap, sym, ◌∙◌, arith, add-zero}
-use Rattle.work.specs.Ended.{Ended, done, stopped, short, invalid, domain, end_of, value_or, is_refused}
+use Rattle.std.proofs.Common.{ap, sym, ◌∙◌, true≢false, arith, add-zero}
+use Rattle.work.specs.Ended.{Ended, done, stopped, short, value_or, is_done}
 use Rattle.work.specs.Work.{Work, ret, stop, ask, ◌>>=◌, metered}
 use Rattle.work.specs.Share.{share}
 use Rattle.work.specs.Through.{through, Open, Driven, heard, driven}
@@ -36,16 +36,15 @@ past_of (done a) n q go = go a n
 past_of (stopped r) n q go = record { ended = stopped r; used = n; asked = q }
 past_of short n q go = record { ended = short; used = n; asked = q }
 
-pub past_refused : {L A B : Type 0} (e : Ended A) (n : ℕ) (q : Open L) (go : A → ℕ → Driven L B) → is_refused (end_of e) ≡ true → (past_of e n q go).asked ≡ q
-past_refused (done a) n q go h = let z : ◌≡◌ {A = ℕ} 0 1 = cc in absurd (omega arith)
+pub past_refused : {L A B : Type 0} (e : Ended A) (n : ℕ) (q : Open L) (go : A → ℕ → Driven L B) → is_done e ≡ false → (past_of e n q go).asked ≡ q
+past_refused (done a) n q go h = absurd (true≢false h)
 past_refused (stopped r) n q go h = refl
 past_refused short n q go h = refl
 
-pub past_answered : {L A B : Type 0} (d : A) (e : Ended A) (n : ℕ) (q : Open L) (go : A → ℕ → Driven L B) → is_refused (end_of e) ≡ false → past_of e n q go ≡ go (value_or d e) n
+pub past_answered : {L A B : Type 0} (d : A) (e : Ended A) (n : ℕ) (q : Open L) (go : A → ℕ → Driven L B) → is_done e ≡ true → past_of e n q go ≡ go (value_or d e) n
 past_answered d (done a) n q go h = refl
-past_answered d (stopped invalid) n q go h = let z : ◌≡◌ {A = ℕ} 0 1 = cc in absurd (omega arith)
-past_answered d (stopped (domain r)) n q go h = let z : ◌≡◌ {A = ℕ} 0 1 = cc in absurd (omega arith)
-past_answered d short n q go h = let z : ◌≡◌ {A = ℕ} 0 1 = cc in absurd (omega arith)
+past_answered d (stopped r) n q go h = absurd (true≢false (sym h))
+past_answered d short n q go h = absurd (true≢false (sym h))
 
 -- the count raised by u
 abbrev shifted : {L A : Type 0} → ℕ → Driven L A → Driven L A

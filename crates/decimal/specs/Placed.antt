@@ -1,5 +1,5 @@
 -- The f64 c · 2^k units, c the whole number nearest num · 2^1074 / (den · 2^k), is the nearest num / den.
-use Rattle.std.specs.Prelude.{◌≡◌, refl, not, ℕ, zero, suc, ◌+◌, ◌-◌, ◌*◌, ◌%◌, ◌^◌, ◌≤◌, ◌<◌, T, Float}
+use Rattle.std.specs.Prelude.{◌≡◌, refl, not, ℕ, zero, suc, ◌+◌, ◌*◌, ◌%◌, ◌^◌, ◌≤◌, ◌<◌, T, Float}
 use Rattle.std.proofs.Common.{sym, ap, ◌∙◌, subst, mul_assoc, mul_left_comm, mul-pos, le_of_mul-le-mul_right, arith, pow_pos}
 use Rattle.std.proofs.Math.Nat.{pow-succ'}
 use Rattle.std.specs.Float.{nan, inf, fin, binary64}

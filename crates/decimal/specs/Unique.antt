@@ -1,5 +1,5 @@
 -- A fraction has one nearest f64: were one of two the lower, the fraction would lie in their middle and both would be even; but then there is an f64 between them.
-use Rattle.std.specs.Prelude.{◌≡◌, Bool, cond, ℕ, suc, ◌+◌, ◌-◌, ◌*◌, ◌%◌, ◌^◌, ◌≤◌, ◌<◌, T, ltb, Float}
+use Rattle.std.specs.Prelude.{◌≡◌, Bool, cond, ℕ, suc, ◌+◌, ◌*◌, ◌%◌, ◌^◌, ◌≤◌, ◌<◌, T, ltb, Float}
 use Rattle.std.proofs.Common.{sym, ap, ◌∙◌, add_comm, lt_of_not-le, le_antisymm, le_of_suc-le-suc, lt_irrefl, lt_trans, arith, ltb-true, ltb-false}
 use Rattle.std.proofs.Math.Nat.{mul-lt-mul_of_pos_left, one-le-pow}
 use borrow.Table.Steps.{cases}

@@ -17,7 +17,10 @@ pub struct Quotient {
 
 // The whole part, then a binary digit a step until there are 54: twice the rest, and where the denominator goes into it, it is taken away and the digit is 1.
 fn divided(num: u64, den: u64) -> Quotient
-    requires { (0 < num) × (0 < den) × (den < 2 ^ 54) × (num < 2 ^ 54 * den) }
+    requires some { 0 < num }
+    requires divides { 0 < den }
+    requires den_fits { den < 2 ^ 54 }
+    requires num_fits { num < 2 ^ 54 * den }
     ensures { Divided num den result.digits result.rest result.places }
 {
     let mut digits = num / den;
@@ -26,8 +29,8 @@ fn divided(num: u64, den: u64) -> Quotient
     while digits < 0x20_0000_0000_0000 {
         let brought = 2 * rest;
         let goes = den <= brought;
-        let digit = root::pencil::digit_of(goes);
-        let taken = root::pencil::taken_of(goes, den);
+        let digit = u64::from(goes);
+        let taken = if goes { den } else { 0 };
         rest = brought - taken;
         digits = 2 * digits + digit;
         places += 1;
@@ -40,6 +43,7 @@ fn divided(num: u64, den: u64) -> Quotient
 }
 
 // Half of the digits: rounded down below the middle, to the even one in it, up above it.
+#[tactic(auto, unfolding(crate::specs::Steps::rounded_of))]
 fn rounded(digits: u64, rest: u64) -> u64
     requires { digits < 2 ^ 54 }
     ensures { result ≡ rounded_of digits rest }
@@ -54,7 +58,9 @@ fn rounded(digits: u64, rest: u64) -> u64
 }
 
 fn nearest(num: u64, den: u64) -> f64
-    requires { (0 < den) × (den < 2 ^ 54) × (num < 2 ^ 54 * den) }
+    requires divides { 0 < den }
+    requires den_fits { den < 2 ^ 54 }
+    requires num_fits { num < 2 ^ 54 * den }
     ensures { Nearest num den result }
 {
     if num == 0 {
@@ -66,24 +72,13 @@ fn nearest(num: u64, den: u64) -> f64
     f64::from_bits(c + (1075 - places) * 0x10_0000_0000_0000)
 }
 
-fn ten_to(places: u64) -> u64
-    requires { places ≤ 16 }
-    ensures { result ≡ 10 ^ places }
-{
-    let mut p: u64 = 1;
-    for i in 0..places {
-        p = 10 * p;
-    }
-    p
-}
-
 // The digits as one number, at most seventeen of them, of which one to sixteen stand after the point.
 pub fn decimal(minus: bool, digits: u64, places: u64) -> f64
     requires { (digits < 10 ^ 17) × (1 ≤ places) × (places ≤ 16) }
     ensures value { result ≡ round binary64 minus digits (10 ^ places) }
     ensures nearest { Decimal minus digits places result }
 {
-    let den = ten_to(places);
+    let den = u64::pow(10, places as u32);
     let r = nearest(digits, den);
     if minus { -r } else { r }
 }

@@ -1,19 +1,61 @@
-// The descent of the probit-normal objective: ask the stepper for a point, evaluate there, tell it the value.
+// The descent of the probit-normal objective.
 #![tactic(auto)]
 
 ghost use Rattle.std.specs.Prelude.{◌≡◌};
-ghost use Rattle.drive.specs.Drive.{run_of};
+ghost use Rattle.objective.specs.Named.{named_objective_of};
+ghost use Rattle.drive.specs.Drive.{answered_of, drive_laws, run_of};
 
-use course::Course;
+use course::{Answer, Course, NoValue, Objective};
 use legendre::Pair;
+use objective::sum::Named;
 use stepper::Plan;
 use work::QuadratureEvaluations;
 
-// A descent that was driven to its end, and the litter at which it was refused, counted from 1: 0 where none was.
+// The litters, and the rule by which each is integrated.
 #[derive(Clone, Copy)]
-pub struct Outcome {
-    pub course: Course,
-    pub litter: u64,
+struct Litters<'a> {
+    litters: &'a [u32],
+    rule: [Pair; 16],
+}
+
+fn answered(r: Result<objective::Objective, Named>) -> Answer
+    ensures { result ≡ answered_of r }
+{
+    match r {
+        Ok(o) => Answer {
+            used: o.used.0,
+            value: Ok(o.v),
+        },
+        Err(n) => {
+            let none = NoValue {
+                refusal: n.refused.refusal,
+                part: n.litter,
+            };
+            Answer {
+                used: n.refused.used.0,
+                value: Err(none),
+            }
+        }
+    }
+}
+
+impl Objective for Litters<'_> {
+    ghost answer = { λ o l x. answered_of (named_objective_of o.rule x o.litters.now (record { 0 = l })) };
+
+    ghost ready = { λ o l. Unit {0} };
+
+    ghost known = { λ o p l s u. Unit {0} };
+
+    ghost laws = { drive_laws (λ o. o.rule) (λ o. o.litters.now) };
+
+    fn evaluate(&self, x: [f64; 4], limit: u64) -> Answer {
+        answered(objective::named_objective(
+            self.rule,
+            x,
+            self.litters,
+            QuadratureEvaluations(limit),
+        ))
+    }
 }
 
 pub fn run(
@@ -23,36 +65,9 @@ pub fn run(
     limit: u64,
     x: [f64; 4],
     wanted: u64,
-) -> Outcome
-    ensures { (result ≡ run_of rule litters.now p limit wanted x) × (litters.now ≡ litters.now) }
+) -> Course
+    ensures { result ≡ run_of rule litters.now p limit wanted x }
 {
-    let mut s = stepper::begin(x, wanted);
-    let mut used: u64 = 0;
-    loop {
-        if !stepper::awaits(s) {
-            let course = course::stopped(used, s);
-            return Outcome { course, litter: 0 };
-        }
-        let next = s.next;
-        let n = objective::named_objective(
-            rule,
-            next,
-            litters,
-            QuadratureEvaluations(limit - used),
-        );
-        let o = n.objective;
-        let spent = used + o.used.0;
-        let end = o.end;
-        if work::refused(end) {
-            let course = course::refusal(end, spent, s);
-            return Outcome {
-                course,
-                litter: n.litter,
-            };
-        }
-        let v = o.v;
-        let t = stepper::tell(p, s, v);
-        s = t;
-        used = spent;
-    }
+    let o = Litters { litters, rule };
+    course::run(&o, p, limit, x, wanted)
 }

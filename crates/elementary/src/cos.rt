@@ -56,6 +56,7 @@ fn sin_near(y: f64) -> f64
     y + (y * z) * s
 }
 
+#[tactic(auto, unfolding(crate::specs::Cos::cos_of))]
 pub fn cos(x: f64) -> f64
     ensures { result ≡ cos_of x }
 {

@@ -71,6 +71,7 @@ fn by_series(u: f64) -> f64
                                                 + u * (ERFC_S11 + u * ERFC_S12)))))))))))
 }
 
+#[tactic(auto, unfolding(crate::specs::Erfc::erfc_tail))]
 fn tail(a: f64) -> f64
     ensures { result ≡ erfc_tail a }
 {
@@ -84,6 +85,7 @@ fn tail(a: f64) -> f64
 }
 
 // For an a that is not below zero.
+#[tactic(auto, unfolding(crate::specs::Erfc::erfc_pos_of))]
 pub fn erfc_pos(a: f64) -> f64
     ensures { result ≡ erfc_pos_of a }
 {
@@ -95,6 +97,7 @@ pub fn erfc_pos(a: f64) -> f64
     tail(a)
 }
 
+#[tactic(auto, unfolding(crate::specs::Erfc::erfc_of))]
 pub fn erfc(x: f64) -> f64
     ensures { result ≡ erfc_of x }
 {
@@ -114,6 +117,7 @@ pub fn has_row(a: f64) -> bool
     a + ERFC_M < ERFC_END
 }
 
+#[tactic(auto, unfolding(crate::specs::Erfc::erfc_place))]
 pub fn place(a: f64) -> u64
     ensures { result ≡ erfc_place a }
 {

@@ -100,6 +100,7 @@ fn scaled(t: f64, scale: f64, p: f64) -> f64
     s + s * p
 }
 
+#[tactic(auto, using(num::specs::Choose::choose, num::specs::Numbers::number_bits), unfolding(crate::specs::Exp::exp_far))]
 fn far(t: f64, p: f64, e: u64) -> f64
     ensures { result ≡ exp_far t p e }
 {
@@ -114,6 +115,7 @@ fn far(t: f64, p: f64, e: u64) -> f64
     (y * f64::from_bits((a - 1) * P52)) * f64::from_bits((e - a - 1) * P52)
 }
 
+#[tactic(auto, using(num::specs::Choose::choose, num::specs::Numbers::number_bits), unfolding(crate::specs::Exp::exp_finish))]
 fn finish(m: u64, r: f64) -> f64
     ensures { result ≡ exp_finish m r }
 {
@@ -130,6 +132,7 @@ fn finish(m: u64, r: f64) -> f64
 }
 
 // The exponential of x + lo, for an x below zero and a far smaller lo.
+#[tactic(auto, unfolding(crate::specs::Exp::exp_low))]
 pub fn low(x: f64, lo: f64) -> f64
     ensures { result ≡ exp_low x lo }
 {
@@ -140,6 +143,7 @@ pub fn low(x: f64, lo: f64) -> f64
     0.0
 }
 
+#[tactic(auto, unfolding(crate::specs::Exp::exp_below))]
 fn below(x: f64) -> f64
     ensures { result ≡ exp_below x }
 {
@@ -150,6 +154,7 @@ fn below(x: f64) -> f64
     0.0
 }
 
+#[tactic(auto, unfolding(crate::specs::Exp::exp_above))]
 fn above(x: f64) -> f64
     ensures { result ≡ exp_above x }
 {
@@ -160,6 +165,7 @@ fn above(x: f64) -> f64
     num::infinity()
 }
 
+#[tactic(auto, unfolding(crate::specs::Exp::exp_of))]
 pub fn exp(x: f64) -> f64
     ensures { result ≡ exp_of x }
 {
@@ -173,6 +179,7 @@ pub fn exp(x: f64) -> f64
 }
 
 // For many numbers at once, in two parts with the table's row between them. A number's place is the m that `finish` takes, or 0 past a cut.
+#[tactic(auto, unfolding(crate::specs::Exp::exp_place))]
 pub fn place(x: f64) -> u64
     ensures { result ≡ exp_place x }
 {
@@ -187,6 +194,7 @@ pub fn place(x: f64) -> u64
 }
 
 // The exponential by the place m and its row, where `finish` does not go to `far`.
+#[tactic(auto, using(num::specs::Numbers::number_bits), unfolding(crate::specs::Exp::exp_by_row))]
 pub fn by_row(x: f64, m: u64, row: tables::ExpRow) -> f64
     ensures { result ≡ exp_by_row x m row }
 {

@@ -17,6 +17,7 @@ const LARGE: f64 = 3.3519519824856493e153;
 
 const SMALL: f64 = 3.4395525670743494e-136;
 
+#[tactic(auto, unfolding(crate::specs::Hypot::scaled_length_of))]
 fn scaled_length(a: f64, b: f64, there: f64, back: f64) -> f64
     ensures { result ≡ scaled_length_of a b there back }
 {
@@ -25,6 +26,7 @@ fn scaled_length(a: f64, b: f64, there: f64, back: f64) -> f64
     root::sqrt(x * x + y * y) * back
 }
 
+#[tactic(auto, unfolding(crate::specs::Hypot::hypot_of))]
 pub fn hypot(a: f64, b: f64) -> f64
     ensures { result ≡ hypot_of a b }
 {

@@ -116,6 +116,7 @@ fn product(x: f64) -> Factors
     Factors { p: p, y: y }
 }
 
+#[tactic(auto, unfolding(crate::specs::Lgamma::lgamma_below_one))]
 fn below_one(x: f64) -> f64
     ensures { result ≡ lgamma_below_one x }
 {
@@ -129,6 +130,7 @@ fn below_one(x: f64) -> f64
 }
 
 // At a whole x the product is an exact factorial.
+#[tactic(auto, unfolding(crate::specs::Lgamma::lgamma_by_product))]
 fn by_product(x: f64) -> f64
     ensures { result ≡ lgamma_by_product x }
 {

@@ -10,6 +10,7 @@ ghost use Rattle.elementary.specs.Log.{log_of, log_small, log_place, log_by_row}
 const P52: u64 = 0x10_0000_0000_0000;
 
 // Below the least normal number. The significand is brought up by its leading zeros, and the exponent counts from so much more.
+#[tactic(auto, using(num::specs::F64::bits_of, num::specs::Choose::choose, num::specs::Numbers::above_number, num::specs::Leading::BroughtUp, num::specs::Leading::brought_up), unfolding(crate::specs::Log::log_small))]
 fn small(x: f64) -> f64
     ensures { result ≡ log_small x }
 {
@@ -52,6 +53,7 @@ pub fn place(x: f64) -> u64
 }
 
 // The logarithm by the place and its row.
+#[tactic(auto, unfolding(crate::specs::Log::log_by_row))]
 pub fn by_row(t: u64, row: tables::LogRow) -> f64
     ensures { result ≡ log_by_row t row }
 {

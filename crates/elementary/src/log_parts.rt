@@ -54,6 +54,7 @@ pub fn fraction(t: u64) -> u64
 }
 
 // b is the bits of a number above zero whose exponent counts from sub.
+#[tactic(auto, unfolding(crate::specs::Log::log_parts))]
 pub fn parts(b: u64, sub: f64) -> LogParts
     requires { b < 2 ^ 63 }
     ensures { result ≡ log_parts b sub }
@@ -65,6 +66,7 @@ pub fn parts(b: u64, sub: f64) -> LogParts
 }
 
 // The same of the exponent and the fraction, by the row.
+#[tactic(auto, using(num::specs::Numbers::number_bits))]
 pub fn at_row(k: f64, frac: u64, row: tables::LogRow) -> LogParts
     requires { frac < 2 ^ 52 }
     ensures { result ≡ log_at k frac row }

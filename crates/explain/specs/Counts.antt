@@ -1,33 +1,37 @@
 -- Why a fit took its steps, as counts that are put into a host's buffers beside the fit.
-use Rattle.std.specs.Prelude.{Bool, cond, ◌&&◌, List, [], ◌∷◌, ◌++◌, ℕ, leb, length, Float}
-use Rattle.num.specs.F64.{bits_of}
-use Rattle.work.specs.declared.Ending.{Ending}
-use Rattle.work.specs.Ended.{number_of, reason_of}
+use Rattle.std.specs.Prelude.{Bool, cond, ◌&&◌, List, [], ◌∷◌, ◌++◌, ℕ, leb, length, Float, Option, Some, None, Result, Ok, Err}
+use Rattle.work.specs.declared.Refusal.{Refusal}
+use Rattle.work.specs.Refusal.{number_of, reason_of}
 use Rattle.descent.specs.declared.Trial.{Trial}
-use Rattle.why.specs.declared.Why.{Why}
-use Rattle.why.specs.declared.Why.TheVariants.{Made, Refused, Unmade}
+use Rattle.why.specs.declared.Test.{Test}
+use Rattle.why.specs.declared.Refused as why
 use Rattle.why.specs.Why.{kind_of, test_number}
+use Rattle.fit.specs.declared.report.Fit.{Fit}
+use Rattle.fit.specs.declared.report.Refused as fit
 use Rattle.fit.specs.declared.report.Seen.{Seen}
 use Rattle.store.specs.Stored.{stored}
 use Rattle.buffers.specs.Buffers.{fit_room_of, put_fit_of}
 use Rattle.store.specs.Given.{Given, given}
-use Rattle.explain.specs.Lines.{number_in}
+use Rattle.explain.specs.Lines.{bits_in, litter_in}
 
 -- kind, the bits of the number that decided, and of a trial that was not made the refusal's number, count and reason
-abbrev pub made_counts_of : Trial → List ℕ
-made_counts_of t = kind_of t ∷ bits_of (number_in t) ∷ 0 ∷ 0 ∷ 0 ∷ []
+abbrev pub trial_counts_of : Option (Result Trial Refusal) → ℕ → List ℕ
+trial_counts_of (Some (Ok t)) used = kind_of t ∷ bits_in t ∷ 0 ∷ 0 ∷ 0 ∷ []
+trial_counts_of (Some (Err e)) used = 7 ∷ 0 ∷ number_of e ∷ used ∷ reason_of e ∷ []
+trial_counts_of None used = 0 ∷ 0 ∷ 1 ∷ 0 ∷ 0 ∷ []
 
-abbrev pub refused_counts_of : Ending → ℕ → List ℕ
-refused_counts_of e used = 7 ∷ 0 ∷ number_of e ∷ used ∷ reason_of e ∷ []
+-- the test that stopped the fit, or the litter at which it was refused
+abbrev pub ending_counts_of : Result Test why.Refused → List ℕ
+ending_counts_of (Ok t) = test_number t ∷ 0 ∷ []
+ending_counts_of (Err e) = 0 ∷ litter_in e.litter ∷ []
 
-abbrev pub trial_counts_of : Why → ℕ → List ℕ
-trial_counts_of (Made t) used = made_counts_of t
-trial_counts_of (Refused e) used = refused_counts_of e used
-trial_counts_of Unmade used = 0 ∷ 0 ∷ 1 ∷ 0 ∷ 0 ∷ []
+-- the quadrature evaluations behind a fit or its refusal
+abbrev pub used_of : Result Fit fit.Refused → ℕ
+used_of (Ok f) = f.quadrature.0
+used_of (Err e) = e.quadrature.0
 
--- after them the test that stopped the fit, and the litter at which it was refused
 unfoldable pub why_counts_of : Seen → List ℕ
-why_counts_of s = trial_counts_of s.why s.fit.quadrature.0 ++ (test_number s.stop.test ∷ s.stop.litter ∷ [])
+why_counts_of s = trial_counts_of s.why (used_of s.fit) ++ ending_counts_of s.stop
 
 -- ---- a host's buffers: those of a fit, and seven places more
 

@@ -5,12 +5,7 @@ ghost use Rattle.std.specs.Prelude.{◌≡◌};
 ghost use Rattle.finite.specs.Finite.{all_finite_of};
 
 pub fn all_finite(v: &[f64]) -> bool
-    ensures { (result ≡ all_finite_of v.now) × (v.now ≡ v.now) }
+    ensures { result ≡ all_finite_of v.now }
 {
-    for i in 0..v.len() {
-        if !num::is_finite(v[i]) {
-            return false;
-        }
-    }
-    true
+    v.iter().all(|x| num::is_finite(*x))
 }

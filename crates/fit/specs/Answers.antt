@@ -1,13 +1,12 @@
--- What is known of a fit that is answered, and of one that is refused: said of the record that the code returns.
-use Rattle.std.proofs.Math.Path.{◌≡◌, ap}
-use Rattle.std.specs.Prelude.{true, false, ◌&&◌, List, ℕ, get_or}
-use Rattle.std.proofs.Common.{arith}
-use Rattle.work.specs.declared.Ending.TheVariants.{Answered, InvalidInput}
-use Rattle.work.specs.Ended.{is_refused, value_or}
+-- What is known of a fit that is answered, and of one that is refused: said of what the code returns.
+use Rattle.std.proofs.Math.Path.{◌≡◌, refl}
+use Rattle.std.specs.Prelude.{true, false, ◌&&◌, List, ℕ, get_or, Ok, Err}
+use Rattle.work.specs.Impossible.{impossible}
+use Rattle.work.specs.declared.Refusal.TheVariants.{InvalidInput}
+use Rattle.work.specs.Ended.{Ended, done, stopped, short}
 use Rattle.work.specs.Work.{Metered, metered}
-use Rattle.work.specs.Given.{Given, of_answer}
-use Rattle.work.specs.Refused.{told_refused}
-use Rattle.work.specs.Metered.{split, branch, gives_up}
+use Rattle.work.specs.Given.{Given, of_metered}
+use Rattle.work.specs.Metered.{split}
 use Rattle.legendre.specs.Legendre.{legendre_of}
 use Rattle.posterior.specs.declared.integrand.Point.{Point}
 use Rattle.posterior.specs.Integrand.{Eval, at}
@@ -16,45 +15,44 @@ use Rattle.request.specs.Request.{admitted_of, valid_limit}
 use Rattle.request.specs.Checks.{request_checks}
 use Rattle.request.specs.Checks as checks
 use Rattle.fit.specs.declared.report.Fit.{Fit}
-use Rattle.fit.specs.Fit.{Report, fit, to_fit, no_report, refused_of, limited_fit, fit_of}
+use Rattle.fit.specs.declared.report.Refused.{Refused}
+use Rattle.fit.specs.Fit.{Report, fit, to_fit, refused_of, fit_at, limited_fit, fit_of}
 
 -- a fit that is answered with a report that has P
 pub record Answers (P : Report → Type 0) (f : Fit) : Type 0 where
   pub count : ℕ
   pub report : Report
   pub has : P report
-  pub is : f ≡ to_fit Answered count report
+  pub is : f ≡ to_fit count report
+
+by_end : {P : Report → Type 0} (e : Ended Report) (n : ℕ) (f : Fit) → fit_at e n ≡ Ok f → ((p : Report) → e ≡ done p → P p) → Answers P f
+by_end (done p) n f h g = record { count = n; report = p; has = g p refl; is = cc }
+by_end (stopped r) n f h g = impossible (cc)
+by_end short n f h g = impossible (cc)
 
 module _ (r : Request) (ls : List ℕ) where
-  abbrev counted : Metered Report
+  abbrev pub counted : Metered Report
   counted = metered at r.quadrature.0 0 (fit legendre_of r ls)
 
   -- what every answer of the definition has, an answered fit has
-  pub answered : {G : Eval → Point → Type 0} {P : Report → Type 0} → ((e : Eval) → G e (at e)) → Given G P (fit legendre_of r ls) → (fit_of r ls).end ≡ Answered → Answers P (fit_of r ls)
+  pub answered : {G : Eval → Point → Type 0} {P : Report → Type 0} → ((e : Eval) → G e (at e)) → Given G P (fit legendre_of r ls) → (f : Fit) → fit_of r ls ≡ Ok f → Answers P f
   unfolding fit_of limited_fit
-  answered known g h =
-      split (valid_limit r.quadrature.0)
-      (λ t.
-      let e = rw t at h in
-      rw t (record { count = counted.used; report = value_or no_report counted.ended; has = of_answer at known r.quadrature.0 0 no_report g e; is = ap (λ a. to_fit a counted.used (value_or no_report counted.ended)) e }))
-      (λ t. let e = rw t at h in let z : ◌≡◌ {A = ℕ} 0 1 = cc in absurd (omega arith))
+  answered known g f h =
+      split (valid_limit r.quadrature.0) (λ t. by_end counted.ended counted.used f (rw t at h) (λ p e. of_metered at known r.quadrature.0 0 p g e))
+      (λ t. let e = rw t at h in impossible (cc))
 
-  -- A refused fit is its ending, its count and zeros.
-  pub refused_is : is_refused (fit_of r ls).end ≡ true → fit_of r ls ≡ refused_of (fit_of r ls).end (fit_of r ls).quadrature.0
-  unfolding fit_of limited_fit
-  refused_is h =
-      split (valid_limit r.quadrature.0)
-      (λ t. let e = rw t at h in rw t (told_refused to_fit no_report counted e))
-      (λ t. rw t)
+  -- A refused fit is its refusal and its count.
+  pub refused_is : (e : Refused) → fit_of r ls ≡ Err e → fit_of r ls ≡ Err (refused_of e.refusal e.quadrature.0)
+  refused_is e h = h
 
   -- A request that fails any check is InvalidInput, with count 0.
-  pub unfit_refused : (valid_limit r.quadrature.0 && admitted_of r ls) ≡ false → fit_of r ls ≡ refused_of InvalidInput 0
-  unfolding fit_of limited_fit fit
+  pub unfit_refused : (valid_limit r.quadrature.0 && admitted_of r ls) ≡ false → fit_of r ls ≡ Err (refused_of InvalidInput 0)
+  unfolding fit_of limited_fit fit metered
   unfit_refused h =
       split (valid_limit r.quadrature.0)
-      (λ t. let e = rw t at h in rw (t, branch, e, gives_up))
+      (λ t. let e = rw t at h in rw (t, e))
       (λ t. rw t)
 
   -- whichever check it is
-  pub any_fails : (i : ℕ) → get_or (request_checks r ls) i true ≡ false → fit_of r ls ≡ refused_of InvalidInput 0
+  pub any_fails : (i : ℕ) → get_or (request_checks r ls) i true ≡ false → fit_of r ls ≡ Err (refused_of InvalidInput 0)
   any_fails i h = unfit_refused (checks.any_fails r ls i h)

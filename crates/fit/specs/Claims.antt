@@ -1,13 +1,12 @@
--- Whether a fit may come out worse than its start: said of the record that the code returns and of its own list of trials.
-use Rattle.std.specs.Prelude.{◌≡◌, true, List, ℕ, T, Float}
+-- Whether a fit may come out worse than its start: said of what the code returns and of its own list of trials.
+use Rattle.std.specs.Prelude.{◌≡◌, true, List, ℕ, T, Float, Result, Ok, Err}
 use Rattle.std.proofs.Math.Path.{refl, ap}
 use Rattle.std.proofs.Common.{◌∙◌}
 use Rattle.std.specs.Float.{binary64}
 use Rattle.std.specs.Float.Ieee.{le, fits}
 use Rattle.num.specs.Helpers.{is_finite_of}
 use Rattle.order.specs.Numbers.{finite_number}
-use Rattle.work.specs.declared.Ending.TheVariants.{Answered}
-use Rattle.work.specs.Ended.{Ended, done, stopped, short, value_or}
+use Rattle.work.specs.Ended.{Ended, done, stopped, short}
 use Rattle.work.specs.Work.{run}
 use Rattle.work.specs.Given.{of_run}
 use Rattle.work.specs.Asks.{answers}
@@ -15,9 +14,11 @@ use Rattle.work.specs.Through.{Open, none, refused}
 use Rattle.legendre.specs.Legendre.{legendre_of}
 use Rattle.posterior.specs.Integrand.{at}
 use Rattle.value.specs.declared.Totals.{Totals}
-use Rattle.value.specs.Totals.{no_totals}
+use Rattle.num.specs.F64.{zero·}
 use Rattle.litters.specs.Litters.{count_of}
-use Rattle.objective.specs.Objective.{objective, objective_of}
+use Rattle.objective.specs.declared.sum.Objective.{Objective}
+use Rattle.objective.specs.declared.sum.Refused as alone
+use Rattle.objective.specs.Objective.{objective, told_objective, objective_of}
 use Rattle.objective.specs.Finite.{Known, objective_known}
 use Rattle.objective.specs.Bound.{objective_in_full}
 use Rattle.descent.specs.declared.Trial.TheVariants.{ByRounding}
@@ -33,9 +34,20 @@ use Rattle.fit.specs.declared.report.Fit.{Fit}
 use Rattle.fit.specs.Fit.{plan_of, report_of, to_fit, fit_of}
 use Rattle.fit.specs.Driven.{descent_of, trials_of, points_of, ends}
 
+-- a likelihood, 0 where there is none
+abbrev pub nll_in : Result Objective alone.Refused → Float
+nll_in (Ok o) = o.v.nll
+nll_in (Err e) = zero·
+
+nll_told : (e : Ended Totals) (n : ℕ) (v : Totals) → e ≡ done v → nll_in (told_objective (record { ended = e; used = n })) ≡ v.nll
+nll_told e n v h = rw h
+
 -- the starting likelihood: the objective's, called alone at the start
 abbrev pub starting_of : Request → List ℕ → Float
-starting_of r ls = (objective_of (start_of r) ls).v.nll
+starting_of r ls = nll_in (objective_of (start_of r) ls)
+
+counted_so : (r : Request) (m : ℕ) (f : Fit) (n : ℕ) (d : Descended (List Float) Totals) → f ≡ to_fit n (report_of r m d.status d.x d.v d.evaluations d.iterations) → f ≡ to_fit f.quadrature.0 (report_of r m f.status d.x d.v f.evaluations.0 f.iterations.0)
+counted_so r m f n d e = rw e
 
 module _ (r : Request) (ls : List ℕ) where
   -- a point at which the fit had its objective evaluated, and its value there
@@ -53,7 +65,7 @@ module _ (r : Request) (ls : List ℕ) where
   visited_fits x v m = (visited_known x v m).value
 
   starting_is : (v : Totals) → Visited (start_of r) v → starting_of r ls ≡ v.nll
-  starting_is v m = ap (λ o. o.v.nll) (objective_in_full (start_of r) ls) ∙ ap (λ (e : Ended Totals). (value_or no_totals e).nll) (visited_value (start_of r) v m)
+  starting_is v m = ap (λ a. nll_in a) (objective_in_full (start_of r) ls) ∙ nll_told _ _ v (visited_value (start_of r) v m)
 
   -- a report of a point and its value that are among those
   pub record Reports (f : Fit) : Type 0 where
@@ -61,7 +73,7 @@ module _ (r : Request) (ls : List ℕ) where
     pub v : Totals
     pub visited : Visited x v
     pub value : run at (objective legendre_of x ls) ≡ done v
-    pub report : f ≡ to_fit Answered f.quadrature.0 (report_of r (count_of ls) f.status x v f.evaluations.0 f.iterations.0)
+    pub report : f ≡ to_fit f.quadrature.0 (report_of r (count_of ls) f.status x v f.evaluations.0 f.iterations.0)
 
   -- ---- of every descent, refused or not
   led_to : (d : Descended (List Float) Totals) → (descent_of r ls).ended ≡ done d → Descends (problem_of (plan_of r)) Visited (start_of r) d
@@ -85,16 +97,16 @@ module _ (r : Request) (ls : List ℕ) where
   unfolding trials_of
   fit_rounding_step a m = by_ended (descent_of r ls).ended (descent_of r ls).asked refl refl a m
 
-  module _ (h : (fit_of r ls).end ≡ Answered) where
-    led : Descends (problem_of (plan_of r)) Visited (start_of r) (ends r ls h).d
-    led = led_to (ends r ls h).d (ends r ls h).ended
+  module _ (f : Fit) (h : fit_of r ls ≡ Ok f) where
+    led : Descends (problem_of (plan_of r)) Visited (start_of r) (ends r ls f h).d
+    led = led_to (ends r ls f h).d (ends r ls f h).ended
 
-    trials_are : trials_of r ls ≡ (ends r ls h).d.trials
+    trials_are : trials_of r ls ≡ (ends r ls f h).d.trials
     unfolding trials_of
-    trials_are = ap (λ e. trials_in e (descent_of r ls).asked) (ends r ls h).ended
+    trials_are = ap (λ e. trials_in e (descent_of r ls).asked) (ends r ls f h).ended
 
-    nll_is : (fit_of r ls).nll ≡ (ends r ls h).d.v.nll
-    nll_is = ap (λ f. f.nll) (ends r ls h).is
+    nll_is : f.nll ≡ (ends r ls f h).d.v.nll
+    nll_is = ap (λ g. g.nll) (ends r ls f h).is
 
     start_is : starting_of r ls ≡ led.start.nll
     start_is = starting_is led.start led.evaluated
@@ -107,18 +119,18 @@ module _ (r : Request) (ls : List ℕ) where
     start_finite = ap (λ y. is_finite_of y) start_is ∙ start_known.finite.likelihood
 
     -- The reported likelihood is at most the start's, raised by the allowance of each step by the rounding rule.
-    pub fit_at_most : le (fit_of r ls).nll (raised_by (trials_of r ls) (starting_of r ls)) ≡ true
+    pub fit_at_most : le f.nll (raised_by (trials_of r ls) (starting_of r ls)) ≡ true
     fit_at_most =
         carried nll_is trials_are start_is
         (at_most_raised (problem_of (plan_of r)) Visited (start_of r) led.start led.evaluated visited_fits (finite_number led.start.nll start_known.finite.likelihood) led.led)
 
     -- Where no step was taken by the rounding rule, it is at most the start's.
-    pub fit_not_worse : roundings_of (trials_of r ls) ≡ 0 → le (fit_of r ls).nll (starting_of r ls) ≡ true
+    pub fit_not_worse : roundings_of (trials_of r ls) ≡ 0 → le f.nll (starting_of r ls) ≡ true
     fit_not_worse z = let k = fit_at_most in rw (unraised (trials_of r ls) (starting_of r ls) z) at k
 
     -- The reported point is one that was evaluated, with the value it had.
-    pub fit_visited : Reports (fit_of r ls)
+    pub fit_visited : Reports f
     fit_visited =
-        let e = ends r ls h in
+        let e = ends r ls f h in
         let m = led_evaluated (problem_of (plan_of r)) Visited (start_of r) led.start led.evaluated led.led in
-        record { x = e.d.x; v = e.d.v; visited = m; value = visited_value e.d.x e.d.v m; report = rw e.is }
+        record { x = e.d.x; v = e.d.v; visited = m; value = visited_value e.d.x e.d.v m; report = counted_so r (count_of ls) f e.used e.d e.is }

@@ -1,7 +1,6 @@
 -- What a fit reports was evaluated: the objective's definition, by itself and without a limit, gives the reported likelihood and norm at the reported point.
-use Rattle.std.specs.Prelude.{◌≡◌, List, ℕ, Float}
+use Rattle.std.specs.Prelude.{◌≡◌, List, ℕ, Float, Ok}
 use Rattle.std.proofs.Math.Path.{refl}
-use Rattle.work.specs.declared.Ending.TheVariants.{Answered}
 use Rattle.work.specs.Ended.{done}
 use Rattle.work.specs.Work.{run}
 use Rattle.work.specs.Given.{Truly, holds, refuses, tested, passed, own_answer_lem}
@@ -15,6 +14,7 @@ use Rattle.request.specs.declared.Request.{Request}
 use Rattle.request.specs.Request.{admitted_of, start_of}
 use Rattle.stepper.specs.Machine.{problem_of}
 use Rattle.drive.specs.Drive.{value_at}
+use Rattle.fit.specs.declared.report.Fit.{Fit}
 use Rattle.fit.specs.Fit.{Report, plan_of, report_of, fit, fit_of}
 use Rattle.fit.specs.Answers.{Answers, answered}
 
@@ -33,5 +33,5 @@ module _ (r : Request) (ls : List ℕ) where
       (λ t. passed (reports_evaluated (problem_of (plan_of r)) (λ q. value_at legendre_of ls q.at) (λ x v. run at (objective legendre_of x ls) ≡ done v) (λ q. own_answer_lem at (objective legendre_of q.at ls)) (start_of r)) (λ d h. holds (record { x = d.x; v = d.v; value = h; report = refl })))
       (λ t. refuses)
 
-  pub fit_evaluated : (fit_of r ls).end ≡ Answered → Answers (Evaluated r ls) (fit_of r ls)
-  fit_evaluated h = answered r ls (λ e. refl) reports h
+  pub fit_evaluated : (f : Fit) → fit_of r ls ≡ Ok f → Answers (Evaluated r ls) f
+  fit_evaluated f h = answered r ls (λ e. refl) reports f h

@@ -1,6 +1,6 @@
 -- An answered fit is finite in every number: likelihood, norm, means, SDs, variances, gradient and Hessian.
-use Rattle.std.specs.Prelude.{◌≡◌, refl, true, false, List, ℕ, zero, suc, ◌<◌, T, get_or, Float}
-use Rattle.std.proofs.Common.{ap, arith, mul-pos, zero-lt-suc, lit<}
+use Rattle.std.specs.Prelude.{◌≡◌, refl, true, false, List, ℕ, zero, suc, ◌<◌, T, get_or, Float, Ok}
+use Rattle.std.proofs.Common.{sym, subst, arith, mul-pos, zero-lt-suc, lit<}
 use Rattle.std.specs.Float.{nan, inf, fin, binary64}
 use Rattle.std.specs.Float.Ieee.{le, is_nan, fits, of_bits}
 use Rattle.std.specs.Float.Ieee.Fits.{up_pos}
@@ -13,7 +13,6 @@ use Rattle.order.specs.Places.{not_below_zero}
 use Rattle.order.specs.Order.{le_then_le}
 use Rattle.order.specs.Choices.{clamp_finite}
 use Rattle.order.specs.Boxes.{inside_finite}
-use Rattle.work.specs.declared.Ending.TheVariants.{Answered}
 use Rattle.work.specs.Given.{Always, holds, refuses, tested, passed}
 use Rattle.work.specs.Asks.{answered}
 use Rattle.legendre.specs.Legendre.{legendre_of}
@@ -26,6 +25,7 @@ use Rattle.request.specs.Request.{admitted_of, low_of, high_of}
 use Rattle.request.specs.Box.{Bounded, the_box, first_variance, second_variance, first_sd, second_sd}
 use Rattle.step.specs.Inside.{norm_finite}
 use Rattle.drive.specs.Drive.{value_at}
+use Rattle.fit.specs.declared.report.Fit.{Fit}
 use Rattle.fit.specs.Fit.{Report, sds_of, report_of, fit, fit_of}
 use Rattle.fit.specs.Answers as answers
 use Rattle.fit.specs.Inside.{Boxed, fit_asks}
@@ -93,7 +93,7 @@ module _ (r : Request) (ls : List ℕ) where
       (λ t. passed (answered (λ q. value_at legendre_of ls q.at) (λ q b. objective_known legendre_of q.at ls) (fit_asks r ls t)) (λ d a. holds (reported t d.x d.v a.inside a.evaluated (count_of ls) d.evaluations d.iterations d.status)))
       (λ t. refuses)
 
-  pub fit_finite : (fit_of r ls).end ≡ Answered → Finite (fit_of r ls).nll (fit_of r ls).norm (fit_of r ls).means (fit_of r ls).sds (fit_of r ls).variances (fit_of r ls).gradient (fit_of r ls).hessian
-  fit_finite h =
-      let a = answers.answered r ls (λ e. tt) reports_finite h in
-      rw (ap (λ f. f.nll) a.is, ap (λ f. f.norm) a.is, ap (λ f. f.means) a.is, ap (λ f. f.sds) a.is, ap (λ f. f.variances) a.is, ap (λ f. f.gradient) a.is, ap (λ f. f.hessian) a.is) a.has
+  pub fit_finite : (f : Fit) → fit_of r ls ≡ Ok f → Finite f.nll f.norm f.means f.sds f.variances f.gradient f.hessian
+  fit_finite f h =
+      let a = answers.answered r ls (λ e. tt) reports_finite f h in
+      subst (λ g. Finite g.nll g.norm g.means g.sds g.variances g.gradient g.hessian) (sym a.is) a.has

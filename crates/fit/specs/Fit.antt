@@ -1,41 +1,45 @@
 -- `fit_probit_normal_binomial` of the source: a request's checks, the descent from its start, and the report.
-use Rattle.std.specs.Prelude.{Bool, false, cond, ◌||◌, List, [], ◌∷◌, ℕ, get_or, replicate, Float}
+use Rattle.std.specs.Prelude.{Bool, cond, ◌||◌, List, [], ◌∷◌, ℕ, get_or, Float, None, Result, Ok, Err}
 use Rattle.std.specs.Float.{nan}
 use Rattle.std.specs.Float.Ieee.{eq}
-use Rattle.num.specs.F64.{zero·}
 use Rattle.num.specs.Helpers.{clamp_of}
 use Rattle.root.specs.Steps.{sqrt_of}
-use Rattle.work.specs.declared.Ending.{Ending}
-use Rattle.work.specs.declared.Ending.TheVariants.{Answered, InvalidInput}
-use Rattle.work.specs.Ended.{invalid, is_refused}
-use Rattle.work.specs.Work.{Work, ret, stop, ◌>>=◌, metered, told}
+use Rattle.work.specs.declared.Refusal.{Refusal}
+use Rattle.work.specs.declared.Refusal.TheVariants.{InvalidInput, WorkBudget}
+use Rattle.work.specs.Answer.{refusal_of}
+use Rattle.work.specs.Ended.{invalid, Ended, done, stopped, short}
+use Rattle.work.specs.Work.{Work, ret, stop, ◌>>=◌, Metered, metered}
 use Rattle.legendre.specs.declared.Pair.{Pair}
 use Rattle.legendre.specs.Legendre.{legendre_of}
 use Rattle.posterior.specs.declared.integrand.Point.{Point}
 use Rattle.posterior.specs.Integrand.{Eval, at}
 use Rattle.descent.specs.declared.Status.{Status}
-use Rattle.descent.specs.declared.Status.TheVariants.{NoStatus}
 use Rattle.work.specs.Through.{through}
 use Rattle.descent.specs.Descent.{descent}
 use Rattle.value.specs.declared.Totals.{Totals}
 use Rattle.litters.specs.Litters.{count_of}
 use Rattle.request.specs.declared.Request.{Request}
 use Rattle.stepper.specs.declared.Plan.{Plan}
+use Rattle.step.specs.declared.Region.{Region}
+use Rattle.course.specs.declared.Stopped.{Stopped}
+use Rattle.course.specs.declared.Refused as course
 use Rattle.course.specs.declared.Course.{Course}
 use Rattle.fit.specs.declared.report.Fit.{Fit}
+use Rattle.fit.specs.declared.report.Refused.{Refused}
 use Rattle.fit.specs.declared.report.Seen.{Seen}
 use Rattle.request.specs.Request.{admitted_of, valid_limit, start_of, low_of, high_of}
 use Rattle.trial.specs.Judged.{norm_at_of}
 use Rattle.stepper.specs.Machine.{problem_of}
-use Rattle.drive.specs.Drive.{value_at, driven_of, refused_litter}
-use Rattle.why.specs.declared.Why.{Why}
-use Rattle.why.specs.declared.Why.TheVariants.{Unmade}
-use Rattle.why.specs.declared.Test.TheVariants.{NoTest}
-use Rattle.why.specs.declared.Stop.{Stop}
-use Rattle.why.specs.Why.{why_in, stop_in}
+use Rattle.drive.specs.Drive.{value_at, run_of}
+use Rattle.why.specs.declared.Test.{Test}
+use Rattle.why.specs.declared.Refused as why
+use Rattle.why.specs.Why.{Why, refusal_at, why_in, stop_in}
+
+abbrev pub region_of : Request → Region
+region_of r = record { lo = low_of r; hi = high_of r }
 
 abbrev pub plan_of : Request → Plan
-plan_of r = record { lo = low_of r; hi = high_of r; tolerance = r.tolerance; most = r.evaluations; turns = r.iterations }
+plan_of r = record { region = region_of r; tolerance = r.tolerance; most = r.evaluations; turns = r.iterations }
 
 pub record Report : Type 0 where
   pub status : Status
@@ -94,10 +98,9 @@ fit rule r ls =
 
 -- ---- the code's answers
 
-abbrev pub to_fit : Ending → ℕ → Report → Fit
-to_fit end n p =
+abbrev pub to_fit : ℕ → Report → Fit
+to_fit n p =
     record {
-      end = end;
       status = p.status;
       means = p.means;
       sds = p.sds;
@@ -113,63 +116,57 @@ to_fit end n p =
       active = p.active;
     }
 
-abbrev pub no_report : Report
-no_report =
-    record {
-      status = NoStatus;
-      means = replicate 2 zero·;
-      sds = replicate 2 zero·;
-      variances = replicate 2 zero·;
-      nll = zero·;
-      norm = zero·;
-      gradient = replicate 4 zero·;
-      hessian = replicate 16 zero·;
-      evaluations = 0;
-      iterations = 0;
-      litters = 0;
-      active = replicate 4 false;
-    }
+-- a refusal with its count
+abbrev pub refused_of : Refusal → ℕ → Refused
+refused_of r used = record { refusal = r; quadrature = record { 0 = used } }
 
--- a refusal: its ending and its count, and zeros
-abbrev pub refused_of : Ending → ℕ → Fit
-refused_of end used = to_fit end used no_report
+-- what a run with its count comes to
+abbrev pub fit_at : Ended Report → ℕ → Result Fit Refused
+fit_at (done p) n = Ok (to_fit n p)
+fit_at (stopped r) n = Err (refused_of (refusal_of r) n)
+fit_at short n = Err (refused_of WorkBudget n)
+
+abbrev pub fit_by : Metered Report → Result Fit Refused
+fit_by m = fit_at m.ended m.used
 
 -- the descent under the request's limit, with the n-th trial watched
 unfoldable pub whole_of : Request → List ℕ → ℕ → Course
-whole_of r ls n = driven_of legendre_of ls (plan_of r) r.quadrature.0 n (start_of r)
+whole_of r ls n = run_of legendre_of ls (plan_of r) r.quadrature.0 n (start_of r)
 
--- the litter at which it is refused, counted from 1; 0 where none is
-unfoldable pub litter_of : Request → List ℕ → ℕ
-litter_of r ls = refused_litter legendre_of ls (plan_of r) r.quadrature.0 (start_of r)
+abbrev pub report_from : Request → ℕ → ℕ → Stopped → Fit
+report_from r n used d = to_fit used (report_of r n d.status d.x d.v d.evaluations.0 d.iterations.0)
 
-unfoldable pub reported_of : Request → ℕ → Course → Fit
-reported_of r n d =
-    cond (is_refused d.end) (refused_of d.end d.used) (to_fit Answered d.used (report_of r n d.status d.x d.v d.evaluations.0 d.iterations.0))
+abbrev pub end_reported : Request → ℕ → ℕ → Result Stopped course.Refused → Result Fit Refused
+end_reported r n used (Ok d) = Ok (report_from r n used d)
+end_reported r n used (Err e) = Err (refused_of e.refusal used)
 
-unfoldable pub limited_fit : ℕ → Request → List ℕ → Fit
-limited_fit limit r ls = told to_fit no_report (metered at limit 0 (fit legendre_of r ls))
+abbrev pub reported_of : Request → ℕ → Course → Result Fit Refused
+reported_of r n d = end_reported r n d.used d.end
+
+unfoldable pub limited_fit : ℕ → Request → List ℕ → Result Fit Refused
+limited_fit limit r ls = fit_by (metered at limit 0 (fit legendre_of r ls))
 
 -- a work limit that is out of range is refused as every other fault is
-unfoldable pub fit_of : Request → List ℕ → Fit
-fit_of r ls = cond (valid_limit r.quadrature.0) (limited_fit r.quadrature.0 r ls) (refused_of InvalidInput 0)
+unfoldable pub fit_of : Request → List ℕ → Result Fit Refused
+fit_of r ls = cond (valid_limit r.quadrature.0) (limited_fit r.quadrature.0 r ls) (Err (refused_of InvalidInput 0))
 
 -- ---- with a trial watched: the fit is the same, whichever it is, and so is what stopped it
 
 unfoldable pub fit_admitted_of : Request → List ℕ → ℕ → Seen
-fit_admitted_of r ls n = record { fit = reported_of r (count_of ls) (whole_of r ls n); why = why_in n (whole_of r ls n); stop = stop_in (whole_of r ls n) (litter_of r ls) }
+fit_admitted_of r ls n = record { fit = reported_of r (count_of ls) (whole_of r ls n); why = why_in (whole_of r ls n); stop = stop_in (whole_of r ls n) }
 
 -- of a request that fails a check
-abbrev pub unfit_stop : Stop
-unfit_stop = record { test = NoTest; end = InvalidInput; litter = 0 }
+abbrev pub unfit_stop : Result Test why.Refused
+unfit_stop = refusal_at InvalidInput None
 
 abbrev pub unfit_of : Seen
-unfit_of = record { fit = refused_of InvalidInput 0; why = Unmade; stop = unfit_stop }
+unfit_of = record { fit = Err (refused_of InvalidInput 0); why = None; stop = unfit_stop }
 
 unfoldable pub why_for : Request → List ℕ → ℕ → Why
-why_for r ls n = cond (valid_limit r.quadrature.0) (cond (admitted_of r ls) (why_in n (whole_of r ls n)) Unmade) Unmade
+why_for r ls n = cond (valid_limit r.quadrature.0) (cond (admitted_of r ls) (why_in (whole_of r ls n)) None) None
 
-unfoldable pub stop_for : Request → List ℕ → ℕ → Stop
-stop_for r ls n = cond (valid_limit r.quadrature.0) (cond (admitted_of r ls) (stop_in (whole_of r ls n) (litter_of r ls)) unfit_stop) unfit_stop
+unfoldable pub stop_for : Request → List ℕ → ℕ → Result Test why.Refused
+stop_for r ls n = cond (valid_limit r.quadrature.0) (cond (admitted_of r ls) (stop_in (whole_of r ls n)) unfit_stop) unfit_stop
 
 unfoldable pub watched_of : Request → List ℕ → ℕ → Seen
 watched_of r ls n = record { fit = fit_of r ls; why = why_for r ls n; stop = stop_for r ls n }

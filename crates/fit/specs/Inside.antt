@@ -1,23 +1,24 @@
 -- Every point that a fit asks for lies in its box, so no candidate is InvalidInput: after its checks a fit ends answered, Domain or WorkBudget.
 use Rattle.std.proofs.Math.Path.{◌≡◌}
-use Rattle.std.specs.Prelude.{refl, Bool, true, false, ◌&&◌, List, ◌↔◌, ℕ, ◌≤◌, T, get_or, Float}
-use Rattle.std.proofs.Common.{ap, arith, lit<}
+use Rattle.std.specs.Prelude.{refl, Bool, true, false, ◌&&◌, List, ◌↔◌, ℕ, ◌≤◌, T, get_or, Float, Err}
+use Rattle.std.proofs.Common.{◌∙◌, ap, lit<}
+use Rattle.work.specs.Impossible.{impossible}
 use Rattle.std.specs.Float.{nan, binary64}
 use Rattle.std.specs.Float.Ieee.{fits}
 use Rattle.std.specs.Float.Ieee.Fits.{mul-fits}
 use Rattle.num.specs.Both.{and_both}
 use Rattle.order.specs.Boxes.{Inside, inside_finite}
-use Rattle.work.specs.declared.Ending.TheVariants.{InvalidInput, Domain}
-use Rattle.work.specs.Ended.{invalid}
+use Rattle.work.specs.declared.Refusal.TheVariants.{InvalidInput, Domain, WorkBudget}
+use Rattle.work.specs.Answer.{refusal_of}
+use Rattle.work.specs.Ended.{Why, invalid, domain, Ended, done, stopped, short}
 use Rattle.work.specs.Metered.{split}
-use Rattle.work.specs.Stops.{Stops, answers, refuses, others, passed, Reasoned, OrInvalid, or_invalid, metered_domain, metered_invalid}
+use Rattle.work.specs.Stops.{Stops, answers, refuses, others, passed, Reasoned, OrInvalid, or_invalid, of_metered}
 use Rattle.work.specs.Asks.{refused_by}
 use Rattle.legendre.specs.Legendre.{legendre_of}
 use Rattle.posterior.specs.Integrand.{at}
 use Rattle.value.specs.declared.Totals.{Totals}
 use Rattle.litters.specs.Valid.{valid_litters_of}
 use Rattle.objective.specs.Point.{valid_point_of}
-use Rattle.objective.specs.Objective as objective
 use Rattle.objective.specs.Reasons.{admitted_reasons}
 use Rattle.objective.specs.Finite.{Known, objective_known}
 use Rattle.descent.specs.Descent.{descent}
@@ -29,8 +30,9 @@ use Rattle.step.specs.Step.{project_of, candidate_of}
 use Rattle.step.specs.Inside.{project_finite, direction_finite, candidate_inside, candidate_fits}
 use Rattle.stepper.specs.Machine.{direction_at_of, problem_of}
 use Rattle.drive.specs.Drive.{value_at}
-use Rattle.fit.specs.Fit.{plan_of, fit, refused_of, limited_fit, fit_of}
-use Rattle.fit.specs.Answers.{unfit_refused}
+use Rattle.fit.specs.declared.report.Refused.{Refused}
+use Rattle.fit.specs.Fit.{Report, plan_of, fit, refused_of, fit_at, limited_fit, fit_of}
+use Rattle.fit.specs.Answers.{counted, unfit_refused}
 use Rattle.fit.specs.Valid.{inside_valid}
 
 -- a point in the request's box, its variances f64
@@ -38,6 +40,22 @@ pub record Boxed (r : Request) (x : List Float) : Type 0 where
   pub inside : Inside (low_of r) (high_of r) x
   pub third : T (fits binary64 (get_or x 2 nan))
   pub fourth : T (fits binary64 (get_or x 3 nan))
+
+-- a refusal that is one of the definition's own is what stopped it
+same_why : (a b : Why) → refusal_of a ≡ refusal_of b → a ≡ b
+same_why invalid invalid h = refl
+same_why invalid (domain i) h = impossible (cc)
+same_why (domain i) invalid h = impossible (cc)
+same_why (domain i) (domain j) h = let q : i ≡ j = cc in rw q
+
+not_short : (b : Why) → WorkBudget ≡ refusal_of b → {Z : Type 0} → Z
+not_short invalid h = impossible (cc)
+not_short (domain i) h = impossible (cc)
+
+by_refusal : (a : Ended Report) (n : ℕ) (e : Refused) (b : Why) → fit_at a n ≡ Err e → e.refusal ≡ refusal_of b → a ≡ stopped b
+by_refusal (done p) n e b h k = impossible (cc)
+by_refusal (stopped a) n e b h k = let g : refused_of (refusal_of a) n ≡ e = cc in rw (same_why a b (ap (λ o. o.refusal) g ∙ k))
+by_refusal short n e b h k = let g : refused_of WorkBudget n ≡ e = cc in not_short b (ap (λ o. o.refusal) g ∙ k)
 
 abbrev pub KnownAt : List Float → Totals → Type 0
 KnownAt x v = Known v
@@ -77,17 +95,17 @@ module _ (r : Request) (ls : List ℕ) where
   any_reasons : Stops (OrInvalid (Reasoned 6)) (fit legendre_of r ls)
   any_reasons = split (admitted_of r ls) (λ t. others (or_invalid (Reasoned 6)) (fit_reasons t)) (λ t. unfold fit in rw t (refuses {r = invalid} tt))
 
-  pub fit_domain : (reason : ℕ) → (fit_of r ls).end ≡ Domain reason → (1 ≤ reason) × (reason ≤ 6)
+  pub fit_domain : (e : Refused) (reason : ℕ) → fit_of r ls ≡ Err e → e.refusal ≡ Domain reason → (1 ≤ reason) × (reason ≤ 6)
   unfolding fit_of limited_fit
-  fit_domain reason h =
+  fit_domain e reason h k =
       split (valid_limit r.quadrature.0)
-      (λ t. let e = rw t at h in metered_domain at r.quadrature.0 0 reason any_reasons e)
-      (λ t. let e = rw t at h in let z : ◌≡◌ {A = ℕ} 0 1 = cc in absurd (omega arith))
+      (λ t. of_metered at r.quadrature.0 0 (domain reason) any_reasons (by_refusal (counted r ls).ended (counted r ls).used e (domain reason) (rw t at h) k))
+      (λ t. let q = rw t at h in let g : InvalidInput ≡ Domain reason = cc in impossible (cc))
 
   -- A fit whose checks pass is never InvalidInput.
-  never_invalid : valid_limit r.quadrature.0 ≡ true → admitted_of r ls ≡ true → (fit_of r ls).end ≡ InvalidInput → ⊥
+  never_invalid : valid_limit r.quadrature.0 ≡ true → admitted_of r ls ≡ true → (e : Refused) → fit_of r ls ≡ Err e → e.refusal ≡ InvalidInput → ⊥
   unfolding fit_of limited_fit
-  never_invalid t h e = metered_invalid at r.quadrature.0 0 (fit_reasons h) (rw t at e)
+  never_invalid t h e g k = of_metered at r.quadrature.0 0 invalid (fit_reasons h) (by_refusal (counted r ls).ended (counted r ls).used e invalid (rw t at g) k)
 
   checks_fail : (a b : Bool) → (a ≡ true → b ≡ true → ⊥) → (a && b) ≡ false
   checks_fail true true h = absurd (h refl refl)
@@ -95,8 +113,8 @@ module _ (r : Request) (ls : List ℕ) where
   checks_fail false b h = refl
 
   -- A fit is InvalidInput exactly if a check of its request fails, and then its count is 0.
-  pub invalid_exactly : ((fit_of r ls).end ≡ InvalidInput) ↔ ((valid_limit r.quadrature.0 && admitted_of r ls) ≡ false)
-  invalid_exactly = (λ e. checks_fail (valid_limit r.quadrature.0) (admitted_of r ls) (λ t h. never_invalid t h e), λ f. ap (λ o. o.end) (unfit_refused r ls f))
+  pub invalid_exactly : ((e : Refused) × (fit_of r ls ≡ Err e) × (e.refusal ≡ InvalidInput)) ↔ ((valid_limit r.quadrature.0 && admitted_of r ls) ≡ false)
+  invalid_exactly = (λ e. checks_fail (valid_limit r.quadrature.0) (admitted_of r ls) (λ t h. never_invalid t h e.0 e.1 e.2), λ f. (refused_of InvalidInput 0, unfit_refused r ls f, refl))
 
-  pub invalid_counts_nothing : (fit_of r ls).end ≡ InvalidInput → fit_of r ls ≡ refused_of InvalidInput 0
-  invalid_counts_nothing e = unfit_refused r ls (invalid_exactly.0 e)
+  pub invalid_counts_nothing : (e : Refused) → fit_of r ls ≡ Err e → e.refusal ≡ InvalidInput → fit_of r ls ≡ Err (refused_of InvalidInput 0)
+  invalid_counts_nothing e h k = unfit_refused r ls (invalid_exactly.0 (e, h, k))

@@ -1,10 +1,9 @@
--- How a fit stops: crates/descent's rule, of the record that the code returns.
-use Rattle.std.specs.Prelude.{◌≡◌, Bool, true, ◌&&◌, List, ℕ, ◌≤◌, leb}
-use Rattle.std.proofs.Common.{ap, arith, leb-true}
+-- How a fit stops: crates/descent's rule, of what the code returns.
+use Rattle.std.specs.Prelude.{◌≡◌, Bool, true, ◌&&◌, List, ℕ, ◌≤◌, leb, Ok}
+use Rattle.std.proofs.Common.{sym, subst, arith, leb-true}
 use Rattle.std.specs.Float.Ieee.{lt}
 use Rattle.num.specs.F64.{zero·}
 use Rattle.num.specs.Helpers.{is_finite_of}
-use Rattle.work.specs.declared.Ending.TheVariants.{Answered}
 use Rattle.work.specs.Metered.{split}
 use Rattle.work.specs.Given.{Always, holds, refuses, tested, passed}
 use Rattle.legendre.specs.Legendre.{legendre_of}
@@ -14,6 +13,7 @@ use Rattle.request.specs.declared.Request.{Request}
 use Rattle.request.specs.Request.{admitted_of, valid_boxes_of, valid_controls_of, up_to_of, two_each_of, start_of}
 use Rattle.stepper.specs.Machine.{problem_of}
 use Rattle.drive.specs.Drive.{value_at}
+use Rattle.fit.specs.declared.report.Fit.{Fit}
 use Rattle.fit.specs.Fit.{Report, plan_of, fit, fit_of}
 use Rattle.fit.specs.Answers.{answered}
 
@@ -39,7 +39,7 @@ module _ (r : Request) (ls : List ℕ) where
       (λ t. refuses)
 
   -- Every answered fit: Converged exactly if its norm is at most the tolerance, and so on; both counts within their limits.
-  pub answered_stops : (fit_of r ls).end ≡ Answered → ByRule (fit_of r ls).status (fit_of r ls).norm r.tolerance (fit_of r ls).evaluations.0 r.evaluations.0 (fit_of r ls).iterations.0 r.iterations.0
-  answered_stops h =
-      let a = answered r ls (λ e. tt) fit_stops h in
-      rw (ap (λ f. f.status) a.is, ap (λ f. f.norm) a.is, ap (λ f. f.evaluations.0) a.is, ap (λ f. f.iterations.0) a.is) a.has
+  pub answered_stops : (f : Fit) → fit_of r ls ≡ Ok f → ByRule f.status f.norm r.tolerance f.evaluations.0 r.evaluations.0 f.iterations.0 r.iterations.0
+  answered_stops f h =
+      let a = answered r ls (λ e. tt) fit_stops f h in
+      subst (λ g. ByRule g.status g.norm r.tolerance g.evaluations.0 r.evaluations.0 g.iterations.0 r.iterations.0) (sym a.is) a.has

@@ -1,6 +1,6 @@
 -- The trials of a fit: at most 48,000, the refused one with them, and never NotMoved. A candidate that has not moved has a zero for its slope, since the gradient and the
 -- point are finite, and a zero is not downhill.
-use Rattle.std.specs.Prelude.{◌≡◌, refl, Bool, true, false, cond, ◌&&◌, List, ℕ, ◌+◌, ◌*◌, ◌≤◌, ◌<◌, T, leb, length, get_or, Float}
+use Rattle.std.specs.Prelude.{◌≡◌, refl, Bool, true, false, ◌&&◌, List, ℕ, ◌+◌, ◌*◌, ◌≤◌, ◌<◌, T, leb, length, get_or, Float, None}
 use Rattle.std.proofs.Common.{ap, ◌∙◌, arith, leb-true, le-ltb, lit<}
 use Rattle.std.proofs.lemmas.Bool.{lt-leb}
 use borrow.Table.Steps.{cases}
@@ -17,7 +17,7 @@ use Rattle.order.specs.Order.{le_then_le, eq_le, eq_ge, le_self, lt_le, not_le}
 use Rattle.order.specs.Sums.{add_not_above, add_not_below, difference_not_below, difference_not_above}
 use Rattle.order.specs.Products.{mul_swap, mul_number, mul_not_above, mul_not_below, mul_both_below}
 use Rattle.order.specs.Boxes.{FiniteFour, inside_finite}
-use Rattle.work.specs.Ended.{Ended, done, stopped, short, end_of}
+use Rattle.work.specs.Ended.{Ended, done, stopped, short}
 use Rattle.work.specs.Metered.{split}
 use Rattle.work.specs.Through.{Open, none, refused, Driven}
 use Rattle.legendre.specs.Legendre.{legendre_of}
@@ -36,14 +36,11 @@ use Rattle.litters.specs.Valid.{valid_litters_of}
 use Rattle.step.specs.Step.{candidate_of, slope_of, still_of}
 use Rattle.stepper.specs.Machine.{direction_at_of, problem_of}
 use Rattle.course.specs.Course.{trial_in, trials_in}
-use Rattle.course.specs.Drives.{course_of}
 use Rattle.drive.specs.Drive.{value_at}
-use Rattle.why.specs.declared.Why.{Why}
-use Rattle.why.specs.declared.Why.TheVariants.{Refused, Unmade}
-use Rattle.why.specs.Why.{why_in, why_of, why_is}
+use Rattle.why.specs.Why.{refused_in, no_trial as no_refused, why_in, why_of, why_is}
 use Rattle.why.specs.Trials.{Trials, no_trial, one_more, moved_of, trials_length, before_trials, before_room, Fit, few_trials, Ran, ran}
 use Rattle.fit.specs.Fit.{plan_of, whole_of, why_for}
-use Rattle.fit.specs.Driven.{descent_of, trials_of}
+use Rattle.fit.specs.Driven.{descent_of, trials_of, litter_of, whole_is}
 use Rattle.fit.specs.Inside.{Boxed, KnownAt, start_boxed, kept}
 
 -- ---- zeros of either sign
@@ -163,7 +160,7 @@ module _ (r : Request) (ls : List ℕ) where
     unfolding trials_of
     never_unmoved m = let d = descent_of r ls in not_among (trials_of_lem d.ended d.used d.asked fit_ran) m
 
-    past_last : (n : ℕ) → 48000 < n → why_of n (descent_of r ls) ≡ Unmade
+    past_last : (n : ℕ) → 48000 < n → why_of n (descent_of r ls) ≡ None
     past_last n l =
         let d = descent_of r ls in
         let ts = trials_in d.ended d.asked in
@@ -175,18 +172,17 @@ module _ (r : Request) (ls : List ℕ) where
         (λ t.
         let room : length ts + 1 ≤ 48 * turns = room_of d.ended d.used d.asked fit_ran t in
         let b : length ts + 1 < n = omega arith in
-        rw (le-ltb n 1 z, lt-leb n (length ts) a, lt-leb n (length ts + 1) b))
-        (λ t. rw (le-ltb n 1 z, lt-leb n (length ts) a, t) (unset (leb n (length ts + 1)) (Refused (end_of d.ended)) Unmade)) where
-          unset : (b : Bool) (x y : Why) → cond (b && false) x y ≡ y
-          unset true x y = refl
-          unset false x y = refl
+        rw (le-ltb n 1 z, lt-leb n (length ts) a, lt-leb n (length ts + 1) b) (no_refused d.ended))
+        (λ t. rw (le-ltb n 1 z, lt-leb n (length ts) a, t) (unset d.ended (leb n (length ts + 1)))) where
+          unset : (e : Ended (Descended (List Float) Totals)) (b : Bool) → refused_in e (b && false) ≡ None
+          unset e true = no_refused e
+          unset e false = no_refused e
 
-    admitted_most : (n : ℕ) → 48000 < n → why_in n (whole_of r ls n) ≡ Unmade
-    unfolding whole_of course_of descent_of
-    admitted_most n l = why_is n (descent_of r ls) ∙ past_last n l
+    admitted_most : (n : ℕ) → 48000 < n → why_in (whole_of r ls n) ≡ None
+    admitted_most n l = ap (λ c. why_in c) (whole_is r ls n) ∙ (why_is n (litter_of r ls) (descent_of r ls) ∙ past_last n l)
 
   -- A fit has at most 48,000 trials, the refused one with them: of a higher number there is none.
-  pub most_trials : (n : ℕ) → 48000 < n → why_for r ls n ≡ Unmade
+  pub most_trials : (n : ℕ) → 48000 < n → why_for r ls n ≡ None
   unfolding why_for
   most_trials n l =
       split (valid_limit r.quadrature.0)

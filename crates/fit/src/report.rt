@@ -1,18 +1,18 @@
 // The fit of a request, and its report.
 ghost use Rattle.std.specs.Prelude.{◌≡◌};
-ghost use Rattle.fit.specs.Fit.{plan_of, sds_of, on_bound_of, active_of, refused_of, reported_of, fit_admitted_of, unfit_of, fit_of, watched_of};
+ghost use Rattle.fit.specs.Fit.{region_of, plan_of, sds_of, on_bound_of, active_of, report_from, refused_of, reported_of, fit_admitted_of, unfit_of, fit_of, watched_of};
 
-use course::Course;
-use descent::Status;
+use course::{Course, Stopped};
+use descent::{Status, Trial};
 use request::Request;
+use step::Region;
 use stepper::Plan;
-use why::{Stop, Test, Why};
-use work::{Ending, FitEvaluations, Iterations, QuadratureEvaluations};
+use why::Test;
+use work::{FitEvaluations, Iterations, QuadratureEvaluations, Refusal};
 
 // The coordinates are two means, then two variances: gradient, Hessian (by rows) and `active`, which marks those that lie on a bound, go by them.
 #[derive(Clone, Copy)]
 pub struct Fit {
-    pub end: Ending,
     pub status: Status,
     pub means: [f64; 2],
     pub sds: [f64; 2],
@@ -28,49 +28,42 @@ pub struct Fit {
     pub active: [bool; 4],
 }
 
-// The fit, why the trial that was watched ended as it did, and what stopped the descent.
+// Why there is no fit, and what it had used by then.
 #[derive(Clone, Copy)]
-pub struct Seen {
-    pub fit: Fit,
-    pub why: Why,
-    pub stop: Stop,
+pub struct Refused {
+    pub refusal: Refusal,
+    pub quadrature: QuadratureEvaluations,
 }
 
-fn refusal(end: Ending, used: QuadratureEvaluations) -> Fit
-    ensures { result ≡ refused_of end used.0 }
+// The fit, why the trial that was watched ended as it did (None: there is none of that number), and what stopped the descent.
+#[derive(Clone, Copy)]
+pub struct Seen {
+    pub fit: Result<Fit, Refused>,
+    pub why: Option<Result<Trial, Refusal>>,
+    pub stop: Result<Test, why::Refused>,
+}
+
+fn region(r: Request) -> Region
+    ensures { result ≡ region_of r }
 {
-    Fit {
-        end,
-        status: Status::NoStatus,
-        means: [0.0; 2],
-        sds: [0.0; 2],
-        variances: [0.0; 2],
-        nll: 0.0,
-        norm: 0.0,
-        gradient: [0.0; 4],
-        hessian: [0.0; 16],
-        evaluations: FitEvaluations(0),
-        iterations: Iterations(0),
-        quadrature: used,
-        litters: 0,
-        active: [false; 4],
+    Region {
+        lo: request::low(r),
+        hi: request::high(r),
     }
 }
 
 fn plan(r: Request) -> Plan
     ensures { result ≡ plan_of r }
 {
-    let most = r.evaluations;
-    let turns = r.iterations;
     Plan {
-        lo: request::low(r),
-        hi: request::high(r),
+        region: region(r),
         tolerance: r.tolerance,
-        most,
-        turns,
+        most: r.evaluations,
+        turns: r.iterations,
     }
 }
 
+#[tactic(auto, unfolding(crate::specs::Fit::sds_of))]
 fn sds(r: Request, x: [f64; 4]) -> [f64; 2]
     ensures { result ≡ sds_of r x }
 {
@@ -86,63 +79,75 @@ fn on_bound(x: f64, lo: f64, hi: f64) -> bool
     num::either(x == lo, x == hi)
 }
 
-fn active(x: [f64; 4], lo: [f64; 4], hi: [f64; 4]) -> [bool; 4]
-    ensures { result ≡ active_of x lo hi }
+#[tactic(auto, unfolding(crate::specs::Fit::active_of))]
+fn active(x: [f64; 4], b: Region) -> [bool; 4]
+    ensures { result ≡ active_of x b.lo b.hi }
 {
-    let a = on_bound(x[0], lo[0], hi[0]);
-    let b = on_bound(x[1], lo[1], hi[1]);
-    let c = on_bound(x[2], lo[2], hi[2]);
-    let d = on_bound(x[3], lo[3], hi[3]);
-    [a, b, c, d]
+    let first = on_bound(x[0], b.lo[0], b.hi[0]);
+    let second = on_bound(x[1], b.lo[1], b.hi[1]);
+    let third = on_bound(x[2], b.lo[2], b.hi[2]);
+    let fourth = on_bound(x[3], b.lo[3], b.hi[3]);
+    [first, second, third, fourth]
 }
 
-fn reported(r: Request, n: u64, d: Course) -> Fit
-    ensures { result ≡ reported_of r n d }
+// Of n litters, where the descent stopped.
+#[tactic(auto, unfolding(crate::specs::Fit::sds_of, crate::specs::Fit::active_of))]
+fn report(r: Request, n: u64, used: u64, d: Stopped) -> Fit
+    ensures { result ≡ report_from r n used d }
 {
-    let end = d.end;
-    let quadrature = QuadratureEvaluations(d.used);
     let x = d.x;
     let v = d.v;
     let a = x[0];
     let b = x[1];
     let c = x[2];
     let e = x[3];
-    if work::refused(end) {
-        return refusal(end, quadrature);
-    }
-    let lo = request::low(r);
-    let hi = request::high(r);
+    let bounds = region(r);
     let s = sds(r, x);
     let first = s[0];
     let second = s[1];
-    let status = d.status;
     let gradient = v.gradient;
     let hessian = v.hessian;
-    let evaluations = d.evaluations;
-    let iterations = d.iterations;
     Fit {
-        end: Ending::Answered,
-        status,
+        status: d.status,
         means: [a, b],
         sds: [first, second],
         variances: [c, e],
         nll: v.nll,
-        norm: trial::norm_at(lo, hi, x, v),
+        norm: trial::norm_at(bounds, x, v),
         gradient,
         hessian,
-        evaluations,
-        iterations,
-        quadrature,
+        evaluations: d.evaluations,
+        iterations: d.iterations,
+        quadrature: QuadratureEvaluations(used),
         litters: n,
-        active: active([a, b, c, e], lo, hi),
+        active: active([a, b, c, e], bounds),
     }
 }
 
+fn refusal(why: Refusal, used: u64) -> Refused
+    ensures { result ≡ refused_of why used }
+{
+    Refused {
+        refusal: why,
+        quadrature: QuadratureEvaluations(used),
+    }
+}
+
+fn reported(r: Request, n: u64, d: Course) -> Result<Fit, Refused>
+    ensures { result ≡ reported_of r n d }
+{
+    match d.end {
+        Ok(s) => Ok(report(r, n, d.used, s)),
+        Err(e) => Err(refusal(e.refusal, d.used)),
+    }
+}
+
+#[tactic(auto, unfolding(crate::specs::Fit::fit_admitted_of, crate::specs::Fit::whole_of))]
 fn fit_admitted(r: Request, litters: &[u32], wanted: u64) -> Seen
     ensures { result ≡ fit_admitted_of r litters.now wanted }
 {
     let n = litters.len() / 3;
-    let d = drive::run(
+    let course = drive::run(
         litters,
         legendre::legendre(),
         plan(r),
@@ -150,32 +155,30 @@ fn fit_admitted(r: Request, litters: &[u32], wanted: u64) -> Seen
         request::start(r),
         wanted,
     );
-    let course = d.course;
-    let fit = reported(r, n as u64, course);
-    let why = why::watched(wanted, course);
-    let stop = why::stopped(course, d.litter);
-    Seen { fit, why, stop }
+    Seen {
+        fit: reported(r, n as u64, course),
+        why: why::watched(course),
+        stop: why::stopped(course),
+    }
 }
 
 // A request that fails a check has no trial and no litter.
 fn unfit() -> Seen
     ensures { result ≡ unfit_of }
 {
-    let fit = refusal(Ending::InvalidInput, QuadratureEvaluations(0));
     Seen {
-        fit,
-        why: Why::Unmade,
-        stop: Stop {
-            test: Test::NoTest,
-            end: Ending::InvalidInput,
-            litter: 0,
-        },
+        fit: Err(refusal(Refusal::InvalidInput, 0)),
+        why: None,
+        stop: Err(why::Refused {
+            refusal: Refusal::InvalidInput,
+            litter: None,
+        }),
     }
 }
 
 // The fit, why the trial of the number wanted ended as it did, and what stopped the fit.
 pub fn fit_watched(r: Request, litters: &[u32], wanted: u64) -> Seen
-    ensures { (result ≡ watched_of r litters.now wanted) × (litters.now ≡ litters.now) }
+    ensures { result ≡ watched_of r litters.now wanted }
 {
     if !request::up_to(20000000, r.quadrature.0) {
         return unfit();
@@ -186,8 +189,9 @@ pub fn fit_watched(r: Request, litters: &[u32], wanted: u64) -> Seen
     fit_admitted(r, litters, wanted)
 }
 
-pub fn fit_probit_normal_binomial(r: Request, litters: &[u32]) -> Fit
-    ensures { (result ≡ fit_of r litters.now) × (litters.now ≡ litters.now) }
+#[tactic(auto, unfolding(crate::specs::Fit::watched_of))]
+pub fn fit_probit_normal_binomial(r: Request, litters: &[u32]) -> Result<Fit, Refused>
+    ensures { result ≡ fit_of r litters.now }
 {
     let s = fit_watched(r, litters, 0);
     s.fit

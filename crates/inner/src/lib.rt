@@ -6,13 +6,15 @@ ghost use Rattle.std.specs.Prelude.{◌≡◌, ◌<◌, ◌≤◌, length};
 ghost use Rattle.tail.specs.Tail.{tail_bound_of};
 
 use legendre::Pair;
-use template::token::Token;
+use objective::{Objective, Refused};
+use row::Share;
 use value::Totals;
-use work::QuadratureEvaluations;
+use work::{Meter, QuadratureEvaluations};
 
 // Two numbers: the logarithm and the ratio.
 pub fn inner_normal(x: f64, out: &mut [f64]) -> u64
-    ensures { (length out.old < 2 → result ≡ 1) × (2 ≤ length out.old → result ≡ 0) }
+    ensures short { length out.old < 2 → result ≡ 1 }
+    ensures fits { 2 ≤ length out.old → result ≡ 0 }
 {
     if out.len() < 2 {
         return 1;
@@ -24,19 +26,21 @@ pub fn inner_normal(x: f64, out: &mut [f64]) -> u64
 }
 
 pub fn inner_mills(x: f64, r: f64, out: &mut [f64]) -> u64
-    ensures { (length out.old < 4 → result ≡ 1) × (4 ≤ length out.old → result ≡ 0) }
+    ensures short { length out.old < 4 → result ≡ 1 }
+    ensures fits { 4 ≤ length out.old → result ≡ 0 }
 {
     if out.len() < 4 {
         return 1;
     }
     let m = normal::moments::mills_derivatives(x, r);
-    store::numbers(&m, out);
+    store::put(&m, out);
     0
 }
 
 // Nine numbers: the logarithm, the score, the curvature, six moments.
 pub fn inner_conditional(eta: f64, successes: u32, total: u32, out: &mut [f64]) -> u64
-    ensures { (length out.old < 9 → result ≡ 1) × (9 ≤ length out.old → result ≡ 0) }
+    ensures short { length out.old < 9 → result ≡ 1 }
+    ensures fits { 9 ≤ length out.old → result ≡ 0 }
 {
     if out.len() < 9 {
         return 1;
@@ -54,30 +58,28 @@ pub fn inner_conditional(eta: f64, successes: u32, total: u32, out: &mut [f64]) 
         m[4],
         m[5],
     ];
-    store::numbers(&v, out);
+    store::put(&v, out);
     0
 }
 
-// The buffer keeps its length.
-fn pairs(rule: [Pair; 16], out: &mut [f64])
-    requires { 32 ≤ length out.old }
-{
-    for i in 0..16usize {
-        let n = rule[i];
-        out[2 * i] = n.x;
-        out[2 * i + 1] = n.w;
+// Each node, and its weight after it.
+fn pairs(rule: &[Pair; 16], out: &mut [f64]) {
+    for (n, o) in rule.iter().zip(out.chunks_exact_mut(2)) {
+        o[0] = n.x;
+        o[1] = n.w;
     }
 }
 
 // Sixteen nodes, each with its weight after it.
 pub fn inner_legendre(out: &mut [f64]) -> u64
-    ensures { (length out.old < 32 → result ≡ 1) × (32 ≤ length out.old → result ≡ 0) }
+    ensures short { length out.old < 32 → result ≡ 1 }
+    ensures fits { 32 ≤ length out.old → result ≡ 0 }
 {
     if out.len() < 32 {
         return 1;
     }
     let rule = legendre::legendre();
-    pairs(rule, out);
+    pairs(&rule, out);
     0
 }
 
@@ -85,6 +87,12 @@ pub fn inner_tail_bound(relative: f64, slope: f64, eta: f64, sd: f64, total: u32
     ensures { result ≡ tail_bound_of relative slope eta sd total }
 {
     tail::tail_bound(relative, slope, eta, sd, total)
+}
+
+fn share_numbers(s: Share) -> [f64; 8] {
+    let g = s.gradient;
+    let h = s.hessian;
+    [s.nll, g[0], g[1], h[0], h[1], h[2], h[3], s.refinement]
 }
 
 // Eight numbers: the value, the gradient, the Hessian by rows, the refinement. Three counts: the ending's number, its reason, the evaluations.
@@ -97,8 +105,9 @@ pub fn inner_row(
     out: &mut [f64],
     counts: &mut [u64],
 ) -> u64
-    ensures value { (length out.old < 8 → result ≡ 1) × (length counts.old < 3 → result ≡ 1) }
-    ensures value_2 { 8 ≤ length out.old → 3 ≤ length counts.old → result ≡ 0 }
+    ensures short_numbers { length out.old < 8 → result ≡ 1 }
+    ensures short_counts { length counts.old < 3 → result ≡ 1 }
+    ensures fits { 8 ≤ length out.old → 3 ≤ length counts.old → result ≡ 0 }
 {
     if out.len() < 8 {
         return 1;
@@ -107,23 +116,34 @@ pub fn inner_row(
         return 1;
     }
     let rule = legendre::legendre();
-    let r = row::row_objective(
-        0,
-        successes,
-        total,
-        rule,
-        mean,
-        variance,
-        QuadratureEvaluations(limit),
-    );
-    let g = r.gradient;
-    let h = r.hessian;
-    let end = r.end;
-    let v = [r.nll, g[0], g[1], h[0], h[1], h[2], h[3], r.refinement];
-    store::numbers(&v, out);
-    let c = [work::number(end), work::reason(end), r.used.0];
-    store::counts(&c, counts);
+    let mut m = Meter {
+        used: QuadratureEvaluations(0),
+        limit: QuadratureEvaluations(limit),
+    };
+    let r = row::row_objective(0, successes, total, &rule, mean, variance, &mut m);
+    let (v, c) = match r {
+        Ok(s) => (share_numbers(s), [0, 0, m.used.0]),
+        Err(e) => ([0.0; 8], [e.number(), e.reason(), m.used.0]),
+    };
+    store::put(&v, out);
+    store::put(&c, counts);
     0
+}
+
+// Zeros stand for the numbers of a refusal.
+fn put(o: Result<Objective, Refused>, out: &mut [f64], counts: &mut [u64])
+    requires numbers { 22 ≤ length out.old }
+    requires three { 3 ≤ length counts.old }
+{
+    let (v, c) = match o {
+        Ok(o) => (buffers::objective_numbers(o), [0, 0, o.used.0]),
+        Err(r) => (
+            [0.0; 22],
+            [r.refusal.number(), r.refusal.reason(), r.used.0],
+        ),
+    };
+    store::put(&v, out);
+    store::put(&c, counts);
 }
 
 // Twenty-two numbers: the value, the gradient, the Hessian by rows, the refinement. Three counts: the ending's number, its reason, the evaluations.
@@ -137,8 +157,9 @@ pub fn inner_objective(
     out: &mut [f64],
     counts: &mut [u64],
 ) -> u64
-    ensures value { (length out.old < 22 → result ≡ 1) × (length counts.old < 3 → result ≡ 1) }
-    ensures value_2 { 22 ≤ length out.old → 3 ≤ length counts.old → result ≡ 0 }
+    ensures short_numbers { length out.old < 22 → result ≡ 1 }
+    ensures short_counts { length counts.old < 3 → result ≡ 1 }
+    ensures fits { 22 ≤ length out.old → 3 ≤ length counts.old → result ≡ 0 }
 {
     if out.len() < 22 {
         return 1;
@@ -153,18 +174,12 @@ pub fn inner_objective(
         litters,
         QuadratureEvaluations(limit),
     );
-    let end = o.end;
-    let v = buffers::objective_numbers(o);
-    store::numbers(&v, out);
-    let c = [work::number(end), work::reason(end), o.used.0];
-    store::counts(&c, counts);
+    put(o, out, counts);
     0
 }
 
 // A sum of all litters, of its twenty-two numbers in the places where `inner_objective` puts them; zeros for fewer.
-fn sum_in(v: &[f64]) -> Totals
-    ensures { v.now ≡ v.now }
-{
+fn sum_in(v: &[f64]) -> Totals {
     if v.len() < 22 {
         return value::nothing();
     }
@@ -181,8 +196,9 @@ fn sum_in(v: &[f64]) -> Totals
 
 // What the objective makes of that sum.
 pub fn inner_total(v: &[f64], used: u64, out: &mut [f64], counts: &mut [u64]) -> u64
-    ensures value { (length out.old < 22 → result ≡ 1) × (length counts.old < 3 → result ≡ 1) }
-    ensures value_2 { 22 ≤ length out.old → 3 ≤ length counts.old → result ≡ 0 }
+    ensures short_numbers { length out.old < 22 → result ≡ 1 }
+    ensures short_counts { length counts.old < 3 → result ≡ 1 }
+    ensures fits { 22 ≤ length out.old → 3 ≤ length counts.old → result ≡ 0 }
 {
     if counts.len() < 3 {
         return 1;
@@ -190,13 +206,7 @@ pub fn inner_total(v: &[f64], used: u64, out: &mut [f64], counts: &mut [u64]) ->
     if out.len() <= 21 {
         return 1;
     }
-    let t = sum_in(v);
-    let o = objective::sum::ended(used, t);
-    let end = o.end;
-    let n = buffers::objective_numbers(o);
-    store::numbers(&n, out);
-    let c = [work::number(end), work::reason(end), o.used.0];
-    store::counts(&c, counts);
+    put(objective::sum::ended(used, sum_in(v)), out, counts);
     0
 }
 
@@ -207,13 +217,10 @@ pub fn inner_value(text: &[u8], out: &mut [u64]) -> u64
     if out.len() < 2 {
         return 1;
     }
-    let t = template::value::value_at(text, 0);
-    match t {
-        Token::Value(v, next) => {
-            out[0] = v;
-            out[1] = next as u64;
-            0
-        }
-        Token::Departs => 2,
-    }
+    let Some((value, rest)) = template::value::read_value(text) else {
+        return 2;
+    };
+    out[0] = value;
+    out[1] = (text.len() - rest.len()) as u64;
+    0
 }

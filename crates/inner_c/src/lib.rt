@@ -7,14 +7,16 @@ ghost use Rattle.tail.specs.Tail.{tail_bound_of};
 // Two numbers: the logarithm and the ratio.
 #[unsafe(no_mangle)]
 pub extern "C" fn inner_normal(x: f64, out: &mut [f64]) -> u64
-    ensures { (length out.old < 2 → result ≡ 1) × (2 ≤ length out.old → result ≡ 0) }
+    ensures short { length out.old < 2 → result ≡ 1 }
+    ensures fits { 2 ≤ length out.old → result ≡ 0 }
 {
     inner::inner_normal(x, out)
 }
 
 #[unsafe(no_mangle)]
 pub extern "C" fn inner_mills(x: f64, r: f64, out: &mut [f64]) -> u64
-    ensures { (length out.old < 4 → result ≡ 1) × (4 ≤ length out.old → result ≡ 0) }
+    ensures short { length out.old < 4 → result ≡ 1 }
+    ensures fits { 4 ≤ length out.old → result ≡ 0 }
 {
     inner::inner_mills(x, r, out)
 }
@@ -22,7 +24,8 @@ pub extern "C" fn inner_mills(x: f64, r: f64, out: &mut [f64]) -> u64
 // Nine numbers: the logarithm, the score, the curvature, six moments.
 #[unsafe(no_mangle)]
 pub extern "C" fn inner_conditional(eta: f64, successes: u32, total: u32, out: &mut [f64]) -> u64
-    ensures { (length out.old < 9 → result ≡ 1) × (9 ≤ length out.old → result ≡ 0) }
+    ensures short { length out.old < 9 → result ≡ 1 }
+    ensures fits { 9 ≤ length out.old → result ≡ 0 }
 {
     inner::inner_conditional(eta, successes, total, out)
 }
@@ -30,7 +33,8 @@ pub extern "C" fn inner_conditional(eta: f64, successes: u32, total: u32, out: &
 // Sixteen nodes, each with its weight after it.
 #[unsafe(no_mangle)]
 pub extern "C" fn inner_legendre(out: &mut [f64]) -> u64
-    ensures { (length out.old < 32 → result ≡ 1) × (32 ≤ length out.old → result ≡ 0) }
+    ensures short { length out.old < 32 → result ≡ 1 }
+    ensures fits { 32 ≤ length out.old → result ≡ 0 }
 {
     inner::inner_legendre(out)
 }
@@ -53,8 +57,9 @@ pub extern "C" fn inner_row(
     out: &mut [f64],
     counts: &mut [u64],
 ) -> u64
-    ensures value { (length out.old < 8 → result ≡ 1) × (length counts.old < 3 → result ≡ 1) }
-    ensures value_2 { 8 ≤ length out.old → 3 ≤ length counts.old → result ≡ 0 }
+    ensures short_numbers { length out.old < 8 → result ≡ 1 }
+    ensures short_counts { length counts.old < 3 → result ≡ 1 }
+    ensures fits { 8 ≤ length out.old → 3 ≤ length counts.old → result ≡ 0 }
 {
     inner::inner_row(mean, variance, successes, total, limit, out, counts)
 }
@@ -71,8 +76,9 @@ pub extern "C" fn inner_objective(
     out: &mut [f64],
     counts: &mut [u64],
 ) -> u64
-    ensures value { (length out.old < 22 → result ≡ 1) × (length counts.old < 3 → result ≡ 1) }
-    ensures value_2 { 22 ≤ length out.old → 3 ≤ length counts.old → result ≡ 0 }
+    ensures short_numbers { length out.old < 22 → result ≡ 1 }
+    ensures short_counts { length counts.old < 3 → result ≡ 1 }
+    ensures fits { 22 ≤ length out.old → 3 ≤ length counts.old → result ≡ 0 }
 {
     inner::inner_objective(x0, x1, x2, x3, litters, limit, out, counts)
 }
@@ -80,8 +86,9 @@ pub extern "C" fn inner_objective(
 // What the objective makes of that sum.
 #[unsafe(no_mangle)]
 pub extern "C" fn inner_total(v: &[f64], used: u64, out: &mut [f64], counts: &mut [u64]) -> u64
-    ensures value { (length out.old < 22 → result ≡ 1) × (length counts.old < 3 → result ≡ 1) }
-    ensures value_2 { 22 ≤ length out.old → 3 ≤ length counts.old → result ≡ 0 }
+    ensures short_numbers { length out.old < 22 → result ≡ 1 }
+    ensures short_counts { length counts.old < 3 → result ≡ 1 }
+    ensures fits { 22 ≤ length out.old → 3 ≤ length counts.old → result ≡ 0 }
 {
     inner::inner_total(v, used, out, counts)
 }

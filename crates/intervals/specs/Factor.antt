@@ -1,12 +1,11 @@
 -- The factor of a covariance matrix by Cholesky, row by row, with the tests of population_intervals.rs in their order.
-use Rattle.std.specs.Prelude.{Bool, true, false, cond, List, ℕ, zero, suc, ◌+◌, ◌*◌, eqb, length, get_or, set, replicate, Float}
+use Rattle.std.specs.Prelude.{Bool, true, cond, List, ℕ, zero, suc, ◌+◌, ◌*◌, eqb, length, get_or, set, replicate, Float, Result, Ok, Err}
 use Rattle.std.specs.Float.{nan}
 use Rattle.std.specs.Float.Ieee.{lt, le}
 use Rattle.num.specs.Fold.{fold_from}
 use Rattle.num.specs.F64.{bits, zero·, ◌⊕◌, ◌⊖◌, ◌⊗◌, ◌⊘◌}
 use Rattle.num.specs.Helpers.{abs_of, is_finite_of, max_of}
 use Rattle.root.specs.Steps.{sqrt_of}
-use Rattle.intervals.specs.declared.factor.Factor.{Factor}
 
 -- 1e-8, 1e-12, 1e-10
 abbrev pub agreement· : Float
@@ -32,6 +31,14 @@ disagrees_of variance error = cond (le variance zero·) true (cond (is_finite_of
 unfoldable pub asymmetric_of : Float → Float → Bool
 asymmetric_of a b = lt (max_of least· (relative· ⊗ max_of (abs_of a) (abs_of b))) (abs_of (a ⊖ b))
 
+-- the triangle, or beside a fault what was factored before it
+abbrev pub Factored : Type 0
+Factored = Result (List Float) (List Float)
+
+abbrev pub and_then : Factored → (List Float → Factored) → Factored
+and_then (Ok lower) f = f lower
+and_then (Err lower) f = Err lower
+
 -- the factor has rows of eight places
 abbrev pub low : List Float → ℕ → ℕ → Float
 low lower i j = get_or lower (8 * i + j) nan
@@ -44,42 +51,36 @@ with_product_of lower i j k sum = sum ⊕ low lower i k ⊗ low lower j k
 unfoldable pub products_of : List Float → ℕ → ℕ → Float
 products_of lower i j = fold_from (with_product_of lower i j) j 0 zero·
 
-abbrev pub fault_of : List Float → Factor
-fault_of lower = record { holds = false; lower = lower }
-
-abbrev pub held_of : List Float → Factor
-held_of lower = record { holds = true; lower = lower }
-
-abbrev pub kept_of : List Float → ℕ → ℕ → Float → Factor
-kept_of lower i j x = held_of (set lower (8 * i + j) x)
+abbrev pub kept_of : List Float → ℕ → ℕ → Float → List Float
+kept_of lower i j x = set lower (8 * i + j) x
 
 -- positive definite: each diagonal's value is finite and positive
-unfoldable pub diagonal_of : List Float → ℕ → Float → Factor
-diagonal_of lower i value = cond (is_finite_of value) (cond (le value zero·) (fault_of lower) (kept_of lower i i (sqrt_of value))) (fault_of lower)
+unfoldable pub diagonal_of : List Float → ℕ → Float → Factored
+diagonal_of lower i value = cond (is_finite_of value) (cond (le value zero·) (Err lower) (Ok (kept_of lower i i (sqrt_of value)))) (Err lower)
 
 abbrev pub value_of : List Float → ℕ → ℕ → ℕ → List Float → Float
 value_of covariance n i j lower = at covariance n i j ⊖ products_of lower i j
 
-unfoldable pub entry_of : List Float → ℕ → ℕ → ℕ → List Float → Factor
+unfoldable pub entry_of : List Float → ℕ → ℕ → ℕ → List Float → Factored
 entry_of covariance n i j lower =
-    cond (asymmetric_of (at covariance n i j) (at covariance n j i)) (fault_of lower)
-    (cond (eqb i j) (diagonal_of lower i (value_of covariance n i j lower)) (kept_of lower i j (value_of covariance n i j lower ⊘ low lower j j)))
+    cond (asymmetric_of (at covariance n i j) (at covariance n j i)) (Err lower)
+    (cond (eqb i j) (diagonal_of lower i (value_of covariance n i j lower)) (Ok (kept_of lower i j (value_of covariance n i j lower ⊘ low lower j j))))
 
 -- m steps from the j-th on, as far as each holds
-unfoldable pub held_from : (ℕ → List Float → Factor) → ℕ → ℕ → List Float → Factor
-held_from step zero j lower = held_of lower
-held_from step (suc m) j lower = let e = step j lower in cond e.holds (held_from step m (j + 1) e.lower) e
+unfoldable pub held_from : (ℕ → List Float → Factored) → ℕ → ℕ → List Float → Factored
+held_from step zero j lower = Ok lower
+held_from step (suc m) j lower = and_then (step j lower) (held_from step m (j + 1))
 
 -- the entries of row i
-unfoldable pub row_of : List Float → ℕ → ℕ → List Float → Factor
+unfoldable pub row_of : List Float → ℕ → ℕ → List Float → Factored
 row_of covariance n i lower = held_from (entry_of covariance n i) (i + 1) 0 lower
 
-unfoldable pub line_of : List Float → ℕ → ℕ → Float → List Float → Factor
-line_of covariance n i error lower = cond (disagrees_of (at covariance n i i) error) (fault_of lower) (row_of covariance n i lower)
+unfoldable pub line_of : List Float → ℕ → ℕ → Float → List Float → Factored
+line_of covariance n i error lower = cond (disagrees_of (at covariance n i i) error) (Err lower) (row_of covariance n i lower)
 
 -- row i, its standard error before it
-abbrev pub line_at : List Float → List Float → ℕ → List Float → Factor
+abbrev pub line_at : List Float → List Float → ℕ → List Float → Factored
 line_at covariance errors i lower = line_of covariance (length errors) i (get_or errors i nan) lower
 
-unfoldable pub factored_of : List Float → List Float → Factor
+unfoldable pub factored_of : List Float → List Float → Factored
 factored_of covariance errors = held_from (line_at covariance errors) (length errors) 0 (replicate 64 zero·)

@@ -1,7 +1,7 @@
 -- A successful answer has every marked interval finite, positive and increasing.
-use Rattle.std.specs.Prelude.{◌≡◌, Bool, true, false, ◌&&◌, cond, List, ltb, length, set, replicate, Float}
+use Rattle.std.specs.Prelude.{◌≡◌, Bool, true, false, ◌&&◌, cond, List, length, set, replicate, Float, Result, Ok, Err, is_ok}
 use Rattle.std.proofs.Math.Path.{refl, ap, subst}
-use Rattle.std.proofs.Common.{sym, ◌∙◌, true≢false, arith, add-zero, zero-add, ltb-false, length-set, get_or-set_same, get_or-set_other}
+use Rattle.std.proofs.Common.{sym, ◌∙◌, true≢false, arith, add-zero, zero-add, length-set, get_or-set_same, get_or-set_other}
 use Prim.Native.Nat.{ℕ, zero, suc, ◌+◌, ◌*◌, ◌≤◌, ◌<◌}
 use Rattle.std.proofs.Math.ListN.{get_or}
 use Rattle.std.specs.Float.{nan, inf, fin}
@@ -10,13 +10,14 @@ use Rattle.num.specs.Both.{and_left, and_right}
 use Rattle.num.specs.F64.{zero·, ◌⊘◌}
 use Rattle.num.specs.Helpers.{is_finite_of}
 use Rattle.intervals.specs.declared.interval.Interval.{Interval}
-use Rattle.intervals.specs.declared.answer.Intervals.{Intervals}
+use Rattle.intervals.specs.declared.interval.Refusal.{Refusal}
+use Rattle.intervals.specs.declared.interval.Refusal.TheVariants.{InvalidInput, Unsupported}
 use Rattle.finite.specs.Finite.{all_finite_of}
 use Rattle.intervals.specs.Shape.{shaped_of, marked_of}
 use Rattle.intervals.specs.Passed.{few}
-use Rattle.intervals.specs.Factor.{factored_of}
-use Rattle.intervals.specs.Interval.{none_of, proper_of, judged_of, transformed_of, log_interval_of, asked_of}
-use Rattle.intervals.specs.Intervals.{refusal_of, placed_of, collected_from, collected_of, intervals_of}
+use Rattle.intervals.specs.Factor.{Factored, factored_of}
+use Rattle.intervals.specs.Interval.{proper_of, judged_of, transformed_of, log_interval_of, asked_of}
+use Rattle.intervals.specs.Intervals.{onward, placed_of, collected_from, collected_of, factored_first, intervals_of}
 
 pub record Proper (lower upper : Float) : Type 0 where
   pub positive : lt zero· lower ≡ true
@@ -44,28 +45,56 @@ passed error lower upper h =
     let b = and_right (lt zero· lower) (lt lower upper) o in
     record { positive = a; increasing = b; finite_lower = between lower upper a b; finite_upper = and_right (lt zero· lower && lt lower upper) (is_finite_of upper) k }
 
+-- ---- what a result that is an answer says
+
+-- the answer of a result, and another of a refusal
+abbrev ok_or : {A : Type 0} → A → Result A Refusal → A
+ok_or other (Ok a) = a
+ok_or other (Err e) = other
+
+ok_same : {A : Type 0} (a b : A) → ◌≡◌ {A = Result A Refusal} (Ok a) (Ok b) → a ≡ b
+ok_same a b h = ap (ok_or a) h
+
+no_answer : {A : Type 0} (e : Refusal) (a : A) → ◌≡◌ {A = Result A Refusal} (Err e) (Ok a) → ⊥
+no_answer e a h = true≢false (sym (ap is_ok h))
+
+went : {A B : Type 0} (f : A → Result B Refusal) (r : Result A Refusal) (b : B) → onward f r ≡ Ok b → (a : A) × (r ≡ Ok a) × (f a ≡ Ok b)
+went f (Ok a) b h = (a, refl, h)
+went f (Err e) b h = absurd (no_answer e b h)
+
+accept : {A : Type 0} (t : Bool) (r : Result A Refusal) (e : Refusal) (a : A) → cond t r (Err e) ≡ Ok a → (t ≡ true) × (r ≡ Ok a)
+accept true r e a h = (refl, h)
+accept false r e a h = absurd (no_answer e a h)
+
+factor_there : (o : Factored) (r : Result (List Float) Refusal) (a : List Float) → factored_first o r ≡ Ok a → r ≡ Ok a
+factor_there (Ok lower) r a h = h
+factor_there (Err lower) r a h = absurd (no_answer InvalidInput a h)
+
 -- ---- one interval
 
-abbrev IsProper : Interval → Type 0
-IsProper v = v.end ≡ 0 → Proper v.lower v.upper
+abbrev IsProper : Result Interval Refusal → Type 0
+IsProper r = (v : Interval) → r ≡ Ok v → Proper v.lower v.upper
 
-none_proper : (n : ℕ) → IsProper (none_of (suc n))
-none_proper n h = let z : suc n ≡ 0 = h in absurd (omega arith)
+refused_proper : (e : Refusal) → IsProper (Err e)
+refused_proper e v h = absurd (no_answer e v h)
 
-by_test : (t : Bool) (v w : Interval) → (t ≡ true → IsProper v) → (t ≡ false → IsProper w) → IsProper (cond t v w)
-by_test true v w p q = p refl
-by_test false v w p q = q refl
+by_test : (t : Bool) (r s : Result Interval Refusal) → (t ≡ true → IsProper r) → (t ≡ false → IsProper s) → IsProper (cond t r s)
+by_test true r s p q = p refl
+by_test false r s p q = q refl
 
 judged_proper : (error lower upper : Float) → IsProper (judged_of error lower upper)
 unfolding judged_of
-judged_proper error lower upper = by_test (proper_of error lower upper) _ (none_of 8) (λ h e. passed error lower upper h) (λ h. none_proper 7)
+judged_proper error lower upper =
+    by_test (proper_of error lower upper) _ (Err Unsupported)
+    (λ h v e. subst (λ (x : Interval). Proper x.lower x.upper) (ok_same (record { error = error; lower = lower; upper = upper }) v e) (passed error lower upper h))
+    (λ h. refused_proper Unsupported)
 
 pub interval_proper : (estimate error : Float) → IsProper (log_interval_of estimate error)
 unfolding log_interval_of
 interval_proper estimate error =
-    by_test (is_finite_of estimate) _ (none_of 1)
-    (λ h. by_test (le estimate zero·) (none_of 1) (transformed_of estimate (error ⊘ estimate)) (λ k. none_proper 0) (λ k. judged_proper _ _ _))
-    (λ h. none_proper 0)
+    by_test (is_finite_of estimate) _ (Err InvalidInput)
+    (λ h. by_test (le estimate zero·) (Err InvalidInput) (transformed_of estimate (error ⊘ estimate)) (λ k. refused_proper InvalidInput) (λ k. judged_proper _ _ _))
+    (λ h. refused_proper InvalidInput)
 
 asked_proper : (t : Bool) (estimate error : Float) → t ≡ true → IsProper (asked_of t estimate error)
 unfolding asked_of
@@ -98,78 +127,63 @@ module _ (numbers : List Float) (i : ℕ) (v : Interval) where
     pub placed_upper : get_or (placed_of numbers i v) (3 * i + 2) nan ≡ v.upper
     placed_upper = get_or-set_same second (3 * i + 2) v.upper nan (rw (length-set first (3 * i + 1) v.lower, length-set numbers (3 * i) v.error) room)
 
--- an answer that is no refusal goes on
-goes : (t : Bool) (n : ℕ) (rest : Intervals) → ltb 0 n ≡ t → (cond t (refusal_of n) rest).end ≡ 0 → (n ≡ 0) × (cond t (refusal_of n) rest ≡ rest)
-goes true n rest u h = let z : n ≡ 0 = h in absurd (true≢false (sym (rw z at u)))
-goes false n rest u h = let z = ltb-false 0 n u in (omega arith, refl)
-
 module _ (estimates errors : List Float) (marks : ℕ) where
-  abbrev at : ℕ → Interval
+  abbrev at : ℕ → Result Interval Refusal
   at i = asked_of (marked_of marks i) (get_or estimates i nan) (get_or errors i nan)
 
-  abbrev from : ℕ → ℕ → List Float → Intervals
+  abbrev from : ℕ → ℕ → List Float → Result (List Float) Refusal
   from m i numbers = collected_from estimates errors marks m i numbers
 
-  step : (m i : ℕ) (numbers : List Float) → (from (suc m) i numbers).end ≡ 0 → ((at i).end ≡ 0) × (from (suc m) i numbers ≡ from m (i + 1) (placed_of numbers i (at i)))
+  step : (m i : ℕ) (numbers all : List Float) → from (suc m) i numbers ≡ Ok all → (v : Interval) × (at i ≡ Ok v) × (from m (i + 1) (placed_of numbers i v) ≡ Ok all)
   unfolding collected_from
-  step m i numbers h = goes (ltb 0 (at i).end) (at i).end (from m (i + 1) (placed_of numbers i (at i))) refl h
+  step m i numbers all h = went (λ v. from m (i + 1) (placed_of numbers i v)) (at i) all h
 
-  stays : (m i : ℕ) (numbers : List Float) (p : ℕ) → p < 3 * i → (from m i numbers).end ≡ 0 → get_or (from m i numbers).numbers p nan ≡ get_or numbers p nan
+  -- the places before an estimate's are kept
+  stays : (m i : ℕ) (numbers all : List Float) (p : ℕ) → p < 3 * i → from m i numbers ≡ Ok all → get_or all p nan ≡ get_or numbers p nan
   unfolding collected_from
-  stays zero i numbers p b h = refl
-  stays (suc m) i numbers p b h =
-      let g = (step m i numbers h).1 in
-      let next : (from m (i + 1) (placed_of numbers i (at i))).end ≡ 0 = ap (λ (a : Intervals). a.end) (sym g) ∙ h in
-      ap (λ (a : Intervals). get_or a.numbers p nan) g ∙ stays m (i + 1) (placed_of numbers i (at i)) p (omega arith) next ∙ placed_before numbers i (at i) p b
+  stays zero i numbers all p b h = ap (λ (l : List Float). get_or l p nan) (sym (ok_same numbers all h))
+  stays (suc m) i numbers all p b h =
+      let s = step m i numbers all h in
+      stays m (i + 1) (placed_of numbers i s.0) all p (omega arith) s.2 ∙ placed_before numbers i s.0 p b
 
   -- an estimate's places hold its own interval
-  record Bounds (a : Intervals) (k : ℕ) : Type 0 where
-    ends : (at k).end ≡ 0
-    lower : get_or a.numbers (3 * k + 1) nan ≡ (at k).lower
-    upper : get_or a.numbers (3 * k + 2) nan ≡ (at k).upper
+  record Bounds (all : List Float) (k : ℕ) : Type 0 where
+    interval : Interval
+    is : at k ≡ Ok interval
+    lower : get_or all (3 * k + 1) nan ≡ interval.lower
+    upper : get_or all (3 * k + 2) nan ≡ interval.upper
 
-  found : (m i d : ℕ) (numbers : List Float) → length numbers ≡ 24 → i + m ≤ 8 → d < m → (from m i numbers).end ≡ 0 → Bounds (from m i numbers) (i + d)
-  found zero i d numbers l f b h = absurd (omega arith)
-  found (suc m) i zero numbers l f b h =
-      let s = step m i numbers h in
-      let next : (from m (i + 1) (placed_of numbers i (at i))).end ≡ 0 = ap (λ (a : Intervals). a.end) (sym s.1) ∙ h in
-      let bounds : Bounds (from m (i + 1) (placed_of numbers i (at i))) i =
+  found : (m i d : ℕ) (numbers all : List Float) → length numbers ≡ 24 → i + m ≤ 8 → d < m → from m i numbers ≡ Ok all → Bounds all (i + d)
+  found zero i d numbers all l f b h = absurd (omega arith)
+  found (suc m) i zero numbers all l f b h =
+      let s = step m i numbers all h in
+      let bounds : Bounds all i =
       record {
-        ends = s.0;
-        lower = stays m (i + 1) (placed_of numbers i (at i)) (3 * i + 1) (omega arith) next ∙ placed_lower numbers i (at i) (omega arith);
-        upper = stays m (i + 1) (placed_of numbers i (at i)) (3 * i + 2) (omega arith) next ∙ placed_upper numbers i (at i) (omega arith);
+        interval = s.0;
+        is = s.1;
+        lower = stays m (i + 1) (placed_of numbers i s.0) all (3 * i + 1) (omega arith) s.2 ∙ placed_lower numbers i s.0 (omega arith);
+        upper = stays m (i + 1) (placed_of numbers i s.0) all (3 * i + 2) (omega arith) s.2 ∙ placed_upper numbers i s.0 (omega arith);
       } in
-      subst (λ (a : Intervals). Bounds a (i + 0)) (sym s.1) (subst (λ (k : ℕ). Bounds (from m (i + 1) (placed_of numbers i (at i))) k) (sym (add-zero i)) bounds)
-  found (suc m) i (suc d) numbers l f b h =
-      let s = step m i numbers h in
-      let next : (from m (i + 1) (placed_of numbers i (at i))).end ≡ 0 = ap (λ (a : Intervals). a.end) (sym s.1) ∙ h in
-      let long : length (placed_of numbers i (at i)) ≡ 24 = placed_length numbers i (at i) ∙ l in
+      subst (λ (k : ℕ). Bounds all k) (sym (add-zero i)) bounds
+  found (suc m) i (suc d) numbers all l f b h =
+      let s = step m i numbers all h in
+      let long : length (placed_of numbers i s.0) ≡ 24 = placed_length numbers i s.0 ∙ l in
       let e : i + 1 + d ≡ i + suc d = omega arith in
-      subst (λ (a : Intervals). Bounds a (i + suc d)) (sym s.1) (subst (λ (k : ℕ). Bounds (from m (i + 1) (placed_of numbers i (at i))) k) e (found m (i + 1) d (placed_of numbers i (at i)) long (omega arith) (omega arith) next))
+      subst (λ (k : ℕ). Bounds all k) e (found m (i + 1) d (placed_of numbers i s.0) all long (omega arith) (omega arith) s.2)
 
-accept : (t : Bool) (a : Intervals) → (cond t a (refusal_of 1)).end ≡ 0 → (t ≡ true) × (cond t a (refusal_of 1) ≡ a)
-accept true a h = (refl, refl)
-accept false a h = let z : ◌≡◌ {A = ℕ} 1 0 = h in absurd (omega arith)
-
-module _ (estimates covariance errors : List Float) (marks : ℕ) where
-  abbrev answer : Intervals
-  answer = intervals_of estimates covariance errors marks
-
+module _ (estimates covariance errors : List Float) (marks : ℕ) (all : List Float) (answered : intervals_of estimates covariance errors marks ≡ Ok all) where
   -- an answer is what was collected, of at most eight estimates
-  collects : answer.end ≡ 0 → (length estimates ≤ 8) × (answer ≡ collected_of estimates errors marks)
+  collects : (length estimates ≤ 8) × (collected_of estimates errors marks ≡ Ok all)
   unfolding intervals_of
-  collects h =
-      let a = accept (shaped_of (length estimates) (length covariance) (length errors) marks) _ h in
-      let b = accept (all_finite_of covariance) _ (ap (λ (x : Intervals). x.end) (sym a.1) ∙ h) in
-      let c = accept (factored_of covariance errors).holds _ (ap (λ (x : Intervals). x.end) (sym b.1) ∙ ap (λ (x : Intervals). x.end) (sym a.1) ∙ h) in
-      (few (length estimates) (length covariance) (length errors) marks a.0, a.1 ∙ b.1 ∙ c.1)
+  collects =
+      let a = accept (shaped_of (length estimates) (length covariance) (length errors) marks) _ InvalidInput all answered in
+      let b = accept (all_finite_of covariance) _ InvalidInput all a.1 in
+      (few (length estimates) (length covariance) (length errors) marks a.0, factor_there (factored_of covariance errors) _ all b.1)
 
-  pub marked_proper : (i : ℕ) → answer.end ≡ 0 → i < length estimates → marked_of marks i ≡ true → Proper (get_or answer.numbers (3 * i + 1) nan) (get_or answer.numbers (3 * i + 2) nan)
+  pub marked_proper : (i : ℕ) → i < length estimates → marked_of marks i ≡ true → Proper (get_or all (3 * i + 1) nan) (get_or all (3 * i + 2) nan)
   unfolding collected_of
-  marked_proper i h b t =
-      let c = collects h in
-      let e : (collected_of estimates errors marks).end ≡ 0 = ap (λ (x : Intervals). x.end) (sym c.1) ∙ h in
-      let all = collected_from estimates errors marks (length estimates) 0 (replicate 24 zero·) in
-      let f = subst (λ (k : ℕ). Bounds estimates errors marks all k) (zero-add i) (found estimates errors marks (length estimates) 0 i (replicate 24 zero·) refl (omega arith) b e) in
-      let p = asked_proper (marked_of marks i) (get_or estimates i nan) (get_or errors i nan) t f.ends in
-      subst (λ (x : Intervals). Proper (get_or x.numbers (3 * i + 1) nan) (get_or x.numbers (3 * i + 2) nan)) (sym c.1) (rw (f.lower, f.upper) p)
+  marked_proper i b t =
+      let c = collects in
+      let f = subst (λ (k : ℕ). Bounds estimates errors marks all k) (zero-add i) (found estimates errors marks (length estimates) 0 i (replicate 24 zero·) all refl (omega arith) b c.1) in
+      let p = asked_proper (marked_of marks i) (get_or estimates i nan) (get_or errors i nan) t f.interval f.is in
+      rw (f.lower, f.upper) p

@@ -1,20 +1,17 @@
-// The factor of a covariance matrix by Cholesky, row by row, and the tests on the way. Its row i begins at place 8 i.
+// The factor of a covariance matrix by Cholesky. Where the matrix is not positive definite or a standard error is not its root, what was factored before that fault.
 ghost use Rattle.std.specs.Prelude.{◌≡◌, ◌*◌, ◌<◌, ◌≤◌, length};
 ghost use Rattle.intervals.specs.Factor.{at, apart_of, disagrees_of, asymmetric_of, products_of, kept_of, diagonal_of, entry_of, row_of, line_of, factored_of};
 
+// By rows, of up to eight estimates.
 #[derive(Clone, Copy)]
-pub struct Factor {
-    pub holds: bool,
-    pub lower: [f64; 64],
+struct Covariance<'a> {
+    rows: &'a [f64],
+    n: usize,
+    ghost few: { n ≤ 8 },
+    ghost square: { length rows.now ≡ n * n },
 }
 
-fn cell(covariance: &[f64], n: usize, i: usize, j: usize) -> f64
-    requires { (n ≤ 8) × (i < n) × (j < n) × (length covariance.now ≡ n * n) }
-    ensures { result ≡ at covariance.now n i j }
-{
-    covariance[n * i + j]
-}
-
+#[tactic(auto, unfolding(crate::specs::Factor::apart_of))]
 fn apart(error: f64, root: f64) -> bool
     ensures { result ≡ apart_of error root }
 {
@@ -22,6 +19,7 @@ fn apart(error: f64, root: f64) -> bool
     1e-8 * larger < num::abs(error - root)
 }
 
+#[tactic(auto, unfolding(crate::specs::Factor::disagrees_of))]
 fn disagrees(variance: f64, error: f64) -> bool
     ensures { result ≡ disagrees_of variance error }
 {
@@ -37,6 +35,7 @@ fn disagrees(variance: f64, error: f64) -> bool
     apart(error, root::sqrt(variance))
 }
 
+#[tactic(auto, unfolding(crate::specs::Factor::asymmetric_of))]
 fn asymmetric(a: f64, b: f64) -> bool
     ensures { result ≡ asymmetric_of a b }
 {
@@ -46,113 +45,106 @@ fn asymmetric(a: f64, b: f64) -> bool
 
 // The sum starts at plus zero.
 fn products(lower: [f64; 64], i: usize, j: usize) -> f64
-    requires { (i < 8) × (j < 8) }
+    requires row { i < 8 }
+    requires column { j < 8 }
     ensures { result ≡ products_of lower i j }
 {
     let mut sum = 0.0;
+    // By place: two rows of one triangle, up to column j.
     for k in 0..j {
         sum = sum + lower[8 * i + k] * lower[8 * j + k];
     }
     sum
 }
 
-fn kept(lower: [f64; 64], i: usize, j: usize, x: f64) -> Factor
-    requires { (i < 8) × (j < 8) }
+fn kept(lower: [f64; 64], i: usize, j: usize, x: f64) -> [f64; 64]
+    requires row { i < 8 }
+    requires column { j < 8 }
     ensures { result ≡ kept_of lower i j x }
 {
-    let mut l = lower;
-    l[8 * i + j] = x;
-    Factor {
-        holds: true,
-        lower: l,
-    }
+    let mut lower = lower;
+    lower[8 * i + j] = x;
+    lower
 }
 
-fn diagonal(lower: [f64; 64], i: usize, value: f64) -> Factor
+#[tactic(auto, unfolding(crate::specs::Factor::diagonal_of))]
+fn diagonal(lower: [f64; 64], i: usize, value: f64) -> Result<[f64; 64], [f64; 64]>
     requires { i < 8 }
     ensures { result ≡ diagonal_of lower i value }
 {
     if !num::is_finite(value) {
-        return Factor {
-            holds: false,
-            lower,
-        };
+        return Err(lower);
     }
     if value <= 0.0 {
-        return Factor {
-            holds: false,
-            lower,
-        };
+        return Err(lower);
     }
-    kept(lower, i, i, root::sqrt(value))
+    Ok(kept(lower, i, i, root::sqrt(value)))
 }
 
-// Only the lower triangle is factored: j is at most i.
-fn entry(covariance: &[f64], n: usize, i: usize, j: usize, lower: [f64; 64]) -> Factor
-    requires { (n ≤ 8) × (i < n) × (j < n) × (length covariance.now ≡ n * n) }
-    ensures { result ≡ entry_of covariance.now n i j lower }
-{
-    let a = cell(covariance, n, i, j);
-    if asymmetric(a, cell(covariance, n, j, i)) {
-        return Factor {
-            holds: false,
-            lower,
-        };
+impl Covariance<'_> {
+    fn cell(&self, i: usize, j: usize) -> f64
+        requires row { i < self.now.n }
+        requires column { j < self.now.n }
+        ensures { result ≡ at self.now.rows.now self.now.n i j }
+    {
+        self.rows[self.n * i + j]
     }
-    let value = a - products(lower, i, j);
-    if i == j {
-        return diagonal(lower, i, value);
-    }
-    kept(lower, i, j, value / lower[8 * j + j])
-}
 
-fn row(covariance: &[f64], n: usize, i: usize, lower: [f64; 64]) -> Factor
-    requires { (n ≤ 8) × (i < n) × (length covariance.now ≡ n * n) }
-    ensures { result ≡ row_of covariance.now n i lower }
-{
-    let mut l = lower;
-    for j in 0..i + 1 {
-        let e = entry(covariance, n, i, j, l);
-        if !e.holds {
-            return e;
+    // Only the lower triangle is factored: j is at most i.
+    #[tactic(auto, unfolding(crate::specs::Factor::entry_of))]
+    fn entry(&self, i: usize, j: usize, lower: [f64; 64]) -> Result<[f64; 64], [f64; 64]>
+        requires row { i < self.now.n }
+        requires column { j < self.now.n }
+        ensures { result ≡ entry_of self.now.rows.now self.now.n i j lower }
+    {
+        let a = self.cell(i, j);
+        if asymmetric(a, self.cell(j, i)) {
+            return Err(lower);
         }
-        let t = e.lower;
-        l = t;
-    }
-    Factor {
-        holds: true,
-        lower: l,
-    }
-}
-
-fn line(covariance: &[f64], n: usize, i: usize, error: f64, lower: [f64; 64]) -> Factor
-    requires { (n ≤ 8) × (i < n) × (length covariance.now ≡ n * n) }
-    ensures { result ≡ line_of covariance.now n i error lower }
-{
-    if disagrees(cell(covariance, n, i, i), error) {
-        return Factor {
-            holds: false,
-            lower,
-        };
-    }
-    row(covariance, n, i, lower)
-}
-
-pub fn factored(covariance: &[f64], errors: &[f64]) -> Factor
-    requires { (length errors.now ≤ 8) × (length covariance.now ≡ length errors.now * length errors.now) }
-    ensures { (result ≡ factored_of covariance.now errors.now) × (covariance.now ≡ covariance.now) × (errors.now ≡ errors.now) }
-{
-    let mut l = [0.0; 64];
-    for i in 0..errors.len() {
-        let e = line(covariance, errors.len(), i, errors[i], l);
-        if !e.holds {
-            return e;
+        let value = a - products(lower, i, j);
+        if i == j {
+            return diagonal(lower, i, value);
         }
-        let t = e.lower;
-        l = t;
+        Ok(kept(lower, i, j, value / lower[8 * j + j]))
     }
-    Factor {
-        holds: true,
-        lower: l,
+
+    fn row(&self, i: usize, lower: [f64; 64]) -> Result<[f64; 64], [f64; 64]>
+        requires { i < self.now.n }
+        ensures { result ≡ row_of self.now.rows.now self.now.n i lower }
+    {
+        let mut lower = lower;
+        // By place: row i of the triangle ends at its diagonal.
+        for j in 0..i + 1 {
+            lower = self.entry(i, j, lower)?;
+        }
+        Ok(lower)
     }
+
+    #[tactic(auto, unfolding(crate::specs::Factor::line_of))]
+    fn line(&self, i: usize, error: f64, lower: [f64; 64]) -> Result<[f64; 64], [f64; 64]>
+        requires { i < self.now.n }
+        ensures { result ≡ line_of self.now.rows.now self.now.n i error lower }
+    {
+        if disagrees(self.cell(i, i), error) {
+            return Err(lower);
+        }
+        self.row(i, lower)
+    }
+}
+
+// The lower triangle, in rows of eight places.
+pub fn factored(covariance: &[f64], errors: &[f64]) -> Result<[f64; 64], [f64; 64]>
+    requires few { length errors.now ≤ 8 }
+    requires square { length covariance.now ≡ length errors.now * length errors.now }
+    ensures { result ≡ factored_of covariance.now errors.now }
+{
+    let matrix = Covariance {
+        rows: covariance,
+        n: errors.len(),
+    };
+    let mut lower = [0.0; 64];
+    for (i, error) in errors.iter().enumerate() {
+        lower = matrix.line(i, *error, lower)?;
+    }
+    Ok(lower)
 }

@@ -1,22 +1,41 @@
-// One estimate's interval in the log coordinate. Its end is 0, 1 for InvalidInput, 8 for Unsupported; with a refusal all is zero.
+// One estimate's interval in the log coordinate.
 ghost use Rattle.std.specs.Prelude.{◌≡◌};
-ghost use Rattle.intervals.specs.Interval.{none_of, proper_of, judged_of, log_interval_of, asked_of};
+ghost use Rattle.intervals.specs.Interval.{number_of, none, proper_of, judged_of, log_interval_of, asked_of};
 
 const Z95: f64 = 1.959963984540054;
 
+// Why there are no intervals.
+#[derive(Clone, Copy, PartialEq, Eq)]
+pub enum Refusal {
+    InvalidInput,
+    Unsupported,
+}
+
+impl Refusal {
+    // As C is given it.
+    pub fn number(self) -> u64
+        ensures { result ≡ number_of self }
+    {
+        match self {
+            Refusal::InvalidInput => 1,
+            Refusal::Unsupported => 8,
+        }
+    }
+}
+
+// The error is in the log coordinate.
 #[derive(Clone, Copy)]
 pub struct Interval {
-    pub end: u64,
     pub error: f64,
     pub lower: f64,
     pub upper: f64,
 }
 
-fn none(end: u64) -> Interval
-    ensures { result ≡ none_of end }
+// What C is given of an estimate that is not marked.
+fn none() -> Interval
+    ensures { result ≡ none }
 {
     Interval {
-        end,
         error: 0.0,
         lower: 0.0,
         upper: 0.0,
@@ -24,38 +43,36 @@ fn none(end: u64) -> Interval
 }
 
 // Tests that hold keep out what is not a number.
+#[tactic(auto, unfolding(crate::specs::Interval::proper_of))]
 fn proper(error: f64, lower: f64, upper: f64) -> bool
     ensures { result ≡ proper_of error lower upper }
 {
-    let increases = num::both(0.0 < lower, lower < upper);
-    num::both(
-        num::is_finite(error),
-        num::both(increases, num::is_finite(upper)),
-    )
+    num::is_finite(error) && (0.0 < lower && lower < upper && num::is_finite(upper))
 }
 
-fn judged(error: f64, lower: f64, upper: f64) -> Interval
+#[tactic(auto, unfolding(crate::specs::Interval::judged_of))]
+fn judged(error: f64, lower: f64, upper: f64) -> Result<Interval, Refusal>
     ensures { result ≡ judged_of error lower upper }
 {
-    if proper(error, lower, upper) {
-        return Interval {
-            end: 0,
-            error,
-            lower,
-            upper,
-        };
+    if !proper(error, lower, upper) {
+        return Err(Refusal::Unsupported);
     }
-    none(8)
+    Ok(Interval {
+        error,
+        lower,
+        upper,
+    })
 }
 
-pub fn log_interval(estimate: f64, error: f64) -> Interval
+#[tactic(auto, unfolding(crate::specs::Interval::log_interval_of))]
+pub fn log_interval(estimate: f64, error: f64) -> Result<Interval, Refusal>
     ensures { result ≡ log_interval_of estimate error }
 {
     if !num::is_finite(estimate) {
-        return none(1);
+        return Err(Refusal::InvalidInput);
     }
     if estimate <= 0.0 {
-        return none(1);
+        return Err(Refusal::InvalidInput);
     }
     let log = error / estimate;
     let center = elementary::log::log(estimate);
@@ -65,11 +82,13 @@ pub fn log_interval(estimate: f64, error: f64) -> Interval
 }
 
 // An estimate that is not marked is not looked at.
-pub fn asked(marked: bool, estimate: f64, error: f64) -> Interval
+#[tactic(auto, unfolding(crate::specs::Interval::asked_of))]
+pub fn asked(marked: bool, estimate: f64, error: f64) -> Result<Interval, Refusal>
     ensures { result ≡ asked_of marked estimate error }
 {
     if marked {
-        return log_interval(estimate, error);
+        log_interval(estimate, error)
+    } else {
+        Ok(none())
     }
-    none(0)
 }

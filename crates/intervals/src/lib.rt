@@ -6,4 +6,5 @@ pub mod factor;
 pub mod interval;
 pub mod shape;
 
-pub use answer::{Intervals, positive_fixed_effect_intervals, put_intervals};
+pub use answer::{positive_fixed_effect_intervals, put_intervals};
+pub use interval::Refusal;

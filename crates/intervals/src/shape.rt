@@ -1,33 +1,21 @@
 // The shape of what is asked, and the marks: bit i marks estimate i as of positive domain.
-ghost use Rattle.std.specs.Prelude.{◌≡◌, ◌*◌, ◌<◌, ◌≤◌};
+ghost use Rattle.std.specs.Prelude.{◌≡◌, ◌<◌};
 ghost use Rattle.intervals.specs.Shape.{shaped_of, marked_of};
 
-fn square(n: usize) -> usize
-    requires { n ≤ 8 }
-    ensures { result ≡ n * n }
-{
-    n * n
-}
-
 // One to eight estimates; covariance by rows; at least one mark, none past the dimension.
+#[tactic(auto, unfolding(crate::specs::Shape::shaped_of))]
 pub fn shaped(estimates: usize, covariance: usize, errors: usize, marks: u64) -> bool
     ensures { result ≡ shaped_of estimates covariance errors marks }
 {
-    if estimates < 1 {
-        return false;
-    }
-    if 8 < estimates {
-        return false;
-    }
-    if marks < 1 {
-        return false;
-    }
-    if marks >> estimates != 0 {
-        return false;
-    }
-    num::both(errors == estimates, covariance == square(estimates))
+    1 <= estimates
+        && estimates <= 8
+        && 1 <= marks
+        && marks >> estimates == 0
+        && errors == estimates
+        && covariance == estimates * estimates
 }
 
+#[tactic(auto, unfolding(crate::specs::Shape::marked_of))]
 pub fn marked(marks: u64, i: usize) -> bool
     requires { i < 64 }
     ensures { result ≡ marked_of marks i }

@@ -7,13 +7,11 @@ use borrow.Table.Steps.{cases}
 use lib.ListN.{get_or}
 use lib.Ieee.{Float, nan, lt}
 use Rattle.num.specs.F64.{infinity·, bits_of}
-use Rattle.num.specs.Values.{values}
 use Rattle.num.specs.Filled.{at_place, same_values}
 use Rattle.tables.specs.declared.log.LogRow.{LogRow}
-use Rattle.lanes.specs.declared.log.LogRows.{LogRows}
 use Rattle.elementary.specs.Log.{log_of, log_parts, log_sum, log_row_at, log_place, log_by_row, log_d, log_bias, least_normal}
 use Rattle.lanes.specs.Lanes.{nth, logs_of}
-use Rattle.lanes.specs.LogParts.{row_in, log_places, log_rows_for, logs_by_row, log_chosen, logs_chosen}
+use Rattle.lanes.specs.LogParts.{no_log_row, log_places, log_rows_for, logs_by_row, log_chosen, logs_chosen}
 
 -- ---- the value by row
 by_parts : (b : ℕ) → log_by_row (b + log_d) (log_row_at (b + log_d)) ≡ log_sum (log_parts b log_bias)
@@ -49,14 +47,13 @@ module _ (j : ℕ) (l : j < 16) where
   unfolding log_places
   place_at x = at_place (λ i. log_place (get_or x i nan)) j 0 l
 
-  row_at : (t : List ℕ) → row_in (log_rows_for t) j ≡ log_row_at (get_or t j 0)
+  row_at : (t : List ℕ) → get_or (log_rows_for t) j no_log_row ≡ log_row_at (get_or t j 0)
   unfolding log_rows_for
-  row_at t =
-      rw (at_place (λ i. (log_row_at (get_or t i 0)).centre) j nan l, at_place (λ i. (log_row_at (get_or t i 0)).inverse) j nan l, at_place (λ i. (log_row_at (get_or t i 0)).high) j nan l, at_place (λ i. (log_row_at (get_or t i 0)).low) j nan l)
+  row_at t = at_place (λ i. log_row_at (get_or t i 0)) j no_log_row l
 
-  value_at_lem : (t : List ℕ) (rows : LogRows) → get_or (logs_by_row t rows) j nan ≡ log_by_row (get_or t j 0) (row_in rows j)
+  value_at_lem : (t : List ℕ) (rows : List LogRow) → get_or (logs_by_row t rows) j nan ≡ log_by_row (get_or t j 0) (get_or rows j no_log_row)
   unfolding logs_by_row
-  value_at_lem t rows = at_place (λ i. log_by_row (get_or t i 0) (row_in rows i)) j nan l
+  value_at_lem t rows = at_place (λ i. log_by_row (get_or t i 0) (get_or rows i no_log_row)) j nan l
 
 same : (x : List Float) → logs_chosen x (logs_by_row (log_places x) (log_rows_for (log_places x))) ≡ logs_of x
 unfolding logs_chosen logs_of
@@ -66,24 +63,5 @@ same x =
     (nth log_of x)
     (λ j l. rw (value_at_lem j l (log_places x) (log_rows_for (log_places x)), row_at j l (log_places x), place_at j l x) (chosen_is (get_or x j nan)))
 
-pub together : (x : List Float) (t : List ℕ) (rows : LogRows) (v r : List Float) → t ≡ log_places x → rows ≡ log_rows_for t → v ≡ logs_by_row t rows → r ≡ logs_chosen x v → r ≡ logs_of x
+pub together : (x : List Float) (t : List ℕ) (rows : List LogRow) (v r : List Float) → t ≡ log_places x → rows ≡ log_rows_for t → v ≡ logs_by_row t rows → r ≡ logs_chosen x v → r ≡ logs_of x
 together x t rows v r a b c d = rw (d, c, b, a) (same x)
-
--- ---- four arrays filled in one loop
-module _ (r s : LogRow) (e : r ≡ s) where
-  pub the_centre : r.centre ≡ s.centre
-  the_centre = rw e
-
-  pub the_inverse : r.inverse ≡ s.inverse
-  the_inverse = rw e
-
-  pub the_high : r.high ≡ s.high
-  the_high = rw e
-
-  pub the_low : r.low ≡ s.low
-  the_low = rw e
-
-pub all_four : (t : List ℕ) (a b c d : List Float) → a ≡ values (λ i. (log_row_at (get_or t i 0)).centre) 16 0 → b ≡ values (λ i. (log_row_at (get_or t i 0)).inverse) 16 0 → c ≡ values (λ i. (log_row_at (get_or t i 0)).high) 16 0 → d ≡ values (λ i. (log_row_at (get_or t i 0)).low) 16 0
-    → ◌≡◌ {A = LogRows} (record { centre = a; inverse = b; high = c; low = d }) (log_rows_for t)
-unfolding log_rows_for
-all_four t a b c d e f g h = rw (e, f, g, h)

@@ -4,6 +4,8 @@
 ghost use Rattle.std.specs.Prelude.{◌≡◌};
 ghost use Rattle.legendre.specs.Legendre.{recurrence_of, newton_of, node_and_weight_of, legendre_of};
 
+use std::array;
+
 const PI: f64 = 3.141592653589793;
 
 // A node and its weight.
@@ -62,6 +64,7 @@ fn newton(start: f64) -> Node
 }
 
 // The k-th pair, k from 1 to 16.
+#[tactic(auto, unfolding(crate::specs::Legendre::node_and_weight_of))]
 fn node_and_weight(k: u32) -> Pair
     ensures { result ≡ node_and_weight_of k }
 {
@@ -75,9 +78,5 @@ fn node_and_weight(k: u32) -> Pair
 pub fn legendre() -> [Pair; 16]
     ensures { result ≡ legendre_of }
 {
-    let mut rule = [Pair { x: 0.0, w: 0.0 }; 16];
-    for i in 0..16u32 {
-        rule[i as usize] = node_and_weight(i + 1);
-    }
-    rule
+    array::from_fn(|i| node_and_weight(i as u32 + 1))
 }

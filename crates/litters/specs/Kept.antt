@@ -1,12 +1,9 @@
--- The table's laws: a row that is put in, and that up to 128 litters' numbers are the table's.
-use Rattle.std.specs.Prelude.{◌≡◌, refl, List, [], ◌∷◌, ◌++◌, ℕ, suc, ◌+◌, ◌*◌, ◌≤◌, ◌<◌, length, set, take, drop, replicate}
-use Rattle.std.proofs.Common.{sym, ap, ◌∙◌, append_assoc, arith, length-set, take-suc-set}
-use Rattle.std.proofs.lemmas.List.Edits.{sets, sets-eq}
-use Rattle.std.proofs.Math.Seq.{set_out, take-append_seam}
+-- The laws of rows: what a row that is put in leaves, and that a run of records has three numbers for each.
+use Rattle.std.specs.Prelude.{◌≡◌, refl, List, [], ◌∷◌, ◌++◌, ℕ, suc, ◌+◌, ◌*◌, ◌<◌, length, set, take}
+use Rattle.std.proofs.Common.{ap, ◌∙◌, append_assoc, arith, length-set, take-suc-set}
 use Rattle.litters.specs.declared.Litter.{Litter}
-use Rattle.litters.specs.declared.table.Table.{Table}
 use Rattle.litters.specs.Litters.{numbers_of}
-use Rattle.litters.specs.Table.{row_in, no_rows, set_row_of, with_rows}
+use Rattle.litters.specs.Table.{row_in}
 
 pub row_length : (b : List ℕ) (i x y z : ℕ) → length (row_in b i x y z) ≡ length b
 row_length b i x y z = simp length-set
@@ -25,31 +22,13 @@ module _ (b : List ℕ) (n x y z : ℕ) (room : 3 * n + 2 < length b) where
       ap (λ l. l ++ (z ∷ [])) (ap (λ k. take k (set (set b (3 * n) x) (3 * n + 1) y)) f ∙ second ∙ ap (λ l. l ++ (y ∷ [])) (ap (λ k. take k (set b (3 * n) x)) g ∙ first)) ∙
       rw (append_assoc (take (3 * n) b) (x ∷ []) (y ∷ []), append_assoc (take (3 * n) b) (x ∷ y ∷ []) (z ∷ []))
 
--- past the last row nothing is set
-out : (b : List ℕ) (i x y z : ℕ) → length b ≤ 3 * i → row_in b i x y z ≡ b
-out b i x y z h = rw (set_out b (3 * i) x h, set_out b (3 * i + 1) y (omega arith), set_out b (3 * i + 2) z (omega arith))
-
-pub row_out : (t : Table) (i : ℕ) (l : Litter) → length t.numbers ≡ 384 → 128 ≤ i → t ≡ set_row_of t i l
-row_out t i l s h = λ j. record { numbers = sym (out t.numbers i l.successes l.total l.group (omega arith)) j }
-
--- a table with each litter is a run of stores
-rows_set : (ls : List Litter) (i : ℕ) (t : Table) → (with_rows ls i t).numbers ≡ sets t.numbers (3 * i) (numbers_of ls)
-unfolding numbers_of
-rows_set [] i t = refl
-rows_set (l ∷ ls) i t =
-    let e : 3 * (i + 1) ≡ suc (suc (suc (3 * i))) = omega arith in
-    let f : 3 * i + 2 ≡ suc (suc (3 * i)) = omega arith in
-    let g : 3 * i + 1 ≡ suc (3 * i) = omega arith in
-    rows_set ls (i + 1) (set_row_of t i l) ∙ rw (e, f, g)
-
 pub numbers_long : (ls : List Litter) → length (numbers_of ls) ≡ 3 * length ls
 unfolding numbers_of
 numbers_long [] = refl
 numbers_long (l ∷ ls) = rw (numbers_long ls) (omega arith)
 
--- up to 128 litters, what the table holds of them is their numbers
-pub few : (ls : List Litter) → length ls ≤ 128 → take (3 * length ls) (with_rows ls 0 no_rows).numbers ≡ numbers_of ls
-few ls h =
-    let long = numbers_long ls in
-    let fits : 0 + length (numbers_of ls) ≤ 384 = omega (arith, long) in
-    rw (← long, rows_set ls 0 no_rows, sets-eq (numbers_of ls) (replicate 384 0) 0 fits) (take-append_seam (numbers_of ls) (drop (0 + length (numbers_of ls)) (replicate 384 0)))
+-- the numbers of two runs, one after the other
+pub numbers_append : (ls ms : List Litter) → numbers_of (ls ++ ms) ≡ numbers_of ls ++ numbers_of ms
+unfolding numbers_of
+numbers_append [] ms = refl
+numbers_append (l ∷ ls) ms = rw (numbers_append ls ms)

@@ -1,64 +1,41 @@
-// Litters as a lent run of records, and the table that keeps their numbers.
-// The litter at i stands in row i.
-ghost use Rattle.std.specs.Prelude.{◌≡◌, ◌≤◌};
-ghost use Rattle.litters.specs.Table.{no_rows, set_row_of, with_rows, numbers_for_of, handed_on_of};
+// A lent run of records handed on as numbers, three a litter.
+ghost use Rattle.std.specs.Prelude.{◌≡◌, ◌*◌, ◌≤◌, length, take};
+ghost use Rattle.std.specs.Fn.{FnOnceReturnsAt};
+ghost use Rattle.litters.specs.Litters.{numbers_of};
+ghost use Rattle.litters.specs.Table.{lent_of, handed_on_of};
 
 use crate::Litter;
 
-// The numbers of 128 litters, three a litter.
-#[derive(Clone, Copy)]
-pub struct Table {
-    pub numbers: [u32; 384],
-}
-
-fn empty() -> Table
-    ensures { result ≡ no_rows }
+// The numbers of up to 128 litters, from the array's start on.
+fn numbers(litters: &[Litter]) -> [u32; 384]
+    requires { length litters.now ≤ 128 }
+    ensures { take (3 * length litters.now) result ≡ numbers_of litters.now }
 {
-    Table { numbers: [0; 384] }
-}
-
-// A litter past the last row is left out.
-fn set_row(t: Table, i: usize, l: Litter) -> Table
-    ensures { result ≡ set_row_of t i l }
-{
-    let mut r = t;
-    if i < 128 {
+    let mut numbers = [0; 384];
+    for (i, litter) in litters.iter().enumerate() {
         let k = 3 * i;
-        r.numbers[k] = l.successes;
-        r.numbers[k + 1] = l.total;
-        r.numbers[k + 2] = l.group;
+        numbers[k] = litter.successes;
+        numbers[k + 1] = litter.total;
+        numbers[k + 2] = litter.group;
     }
-    r
+    numbers
 }
 
-pub fn to_table(litters: &[Litter]) -> Table
-    ensures { (result ≡ with_rows litters.now 0 no_rows) × (litters.now ≡ litters.now) }
+// What `f` answers of the litters' numbers. More than 128 are refused as none are, so none go.
+pub fn with_numbers<R, F: FnOnce(&[u32]) -> R>(litters: &[Litter], f: F) -> R
+    requires { F.IsAlwaysCallable f }
+    ensures { FnOnceReturnsAt F.FnOnce f (lent_of litters.now) result }
 {
-    let mut t = empty();
-    let mut i = 0;
-    while i < litters.len() {
-        t = set_row(t, i, litters[i]);
-        i += 1;
+    if 128 < litters.len() {
+        return f(&[]);
     }
-    t
+    f(&numbers(litters)[..3 * litters.len()])
 }
 
 // How many of n lent numbers, three a litter, go to the core. More than 128 litters are refused as none are, so none go.
 pub fn handed_on(n: usize) -> usize
-    ensures { (result ≡ handed_on_of n) × (result ≤ n) }
+    ensures number { result ≡ handed_on_of n }
+    ensures within { result ≤ n }
 {
-    if n / 3 <= 128 {
-        return n;
-    }
-    0
-}
-
-// How many of the table's numbers stand for n litters. More than 128 are refused as none are, so none are handed on.
-pub fn numbers_for(n: usize) -> usize
-    ensures { (result ≡ numbers_for_of n) × (result ≤ 384) }
-{
-    if 128 < n {
-        return 0;
-    }
-    3 * n
+    if n / 3 <= 128 { n } else { 0 }
 }

@@ -6,12 +6,12 @@ use Rattle.num.specs.F64.{◌⊗◌, zero·, two·}
 use Rattle.num.specs.Helpers.{abs_of}
 use Rattle.work.specs.Work.{◌>>=◌}
 use Rattle.work.specs.AtMost.{AtMost, rets, stops, asks, either, both}
+use Rattle.posterior.specs.declared.side.Ends.{Ends}
 use Rattle.posterior.specs.declared.side.Side.{Side}
 use Rattle.posterior.specs.declared.side.Side.TheVariants.{Left, Right}
 use Rattle.posterior.specs.Side.{first_of, rises_of, flat_of}
 use Rattle.posterior.specs.Integrand.{Eval}
 use Rattle.mode.specs.declared.Guess.{Guess}
-use Rattle.posterior.specs.Flanks.{Ends}
 use Rattle.mode.specs.Bracket.{doubled, ends, check_ends}
 use Rattle.mode.specs.Mode.{allowed_of, steps_tolerance, mode_tolerance, narrowed_of, start_of, passes, confirmed, peak}
 

@@ -1,18 +1,14 @@
 -- The mode's bracket: each end is doubled outward until the density rises from there, at most sixteen times, then both ends are checked.
 use Rattle.std.specs.Prelude.{cond, ℕ, zero, suc, Float}
-use Rattle.num.specs.F64.{◌⊗◌, zero·, two·}
+use Rattle.num.specs.F64.{◌⊗◌, two·}
 use Rattle.work.specs.Ended.{domain}
-use Rattle.work.specs.Work.{Work, ret, stop, eval, told, ◌>>=◌}
+use Rattle.work.specs.Work.{Work, ret, stop, eval, ◌>>=◌}
+use Rattle.posterior.specs.declared.side.Ends.{Ends}
 use Rattle.posterior.specs.declared.side.Side.{Side}
 use Rattle.posterior.specs.declared.side.Side.TheVariants.{Left, Right}
-use Rattle.posterior.specs.declared.integrand.Posterior.{Posterior}
 use Rattle.posterior.specs.declared.integrand.Point.{Point}
-use Rattle.posterior.specs.declared.number.Number.{Number}
-use Rattle.posterior.specs.declared.flanks.Flanks.{Flanks}
 use Rattle.posterior.specs.Side.{first_of, rises_of, flat_of}
-use Rattle.posterior.specs.Integrand.{Eval, here, from}
-use Rattle.posterior.specs.Number.{to_number}
-use Rattle.posterior.specs.Flanks.{Ends, no_ends, to_flanks}
+use Rattle.posterior.specs.Integrand.{Eval}
 
 -- at most n doublings more, from z
 unfoldable pub doubled : (Float → Eval) → Side → ℕ → Float → Work Eval Point Float
@@ -34,17 +30,3 @@ check_ends here e = do
   cond (flat_of Left v.slope) (stop (domain 1)) (do
     u ← eval (here e.right)
     cond (flat_of Right u.slope) (stop (domain 1)) (ret e))
-
--- ---- the code's answers
-
-unfoldable pub bound_from : Posterior → Side → ℕ → Float → Number
-bound_from p side n z = told (to_number p) zero· (from p (doubled (here p) side n z))
-
-unfoldable pub double_of : Posterior → Side → Number
-double_of p side = bound_from p side 16 (first_of side)
-
-unfoldable pub bracket_of : Posterior → Flanks
-bracket_of p = told (to_flanks p) no_ends (from p (ends (here p)))
-
-unfoldable pub check_of : Posterior → Float → Float → Flanks
-check_of p lo hi = told (to_flanks p) no_ends (from p (check_ends (here p) (record { left = lo; right = hi })))

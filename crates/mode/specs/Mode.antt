@@ -3,16 +3,12 @@ use Rattle.std.specs.Prelude.{cond, ◌&&◌, ℕ, zero, suc, Float}
 use Rattle.std.specs.Float.Ieee.{lt, le}
 use Rattle.num.specs.F64.{◌⊕◌, ◌⊗◌, ◌⊘◌, bits, zero·, half·, one·}
 use Rattle.num.specs.Helpers.{abs_of, clamp_of}
-use Rattle.work.specs.declared.Ending.{Ending}
 use Rattle.work.specs.Ended.{domain}
-use Rattle.work.specs.Work.{Work, ret, stop, eval, told, ◌>>=◌}
-use Rattle.posterior.specs.declared.integrand.Posterior.{Posterior}
+use Rattle.work.specs.Work.{Work, ret, stop, eval, ◌>>=◌}
 use Rattle.posterior.specs.declared.integrand.Point.{Point}
-use Rattle.posterior.specs.declared.number.Number.{Number}
 use Rattle.mode.specs.declared.Guess.{Guess}
 use Rattle.mode.specs.declared.Mode.{Mode}
-use Rattle.posterior.specs.Integrand.{Eval, here, counted, from}
-use Rattle.posterior.specs.Number.{to_number}
+use Rattle.posterior.specs.Integrand.{Eval}
 
 -- a slope at z counts as zero up to c times 1 + |z|
 abbrev pub allowed_of : Float → Float → Float
@@ -41,13 +37,8 @@ passes here (suc n) g = do
   v ← eval (here g.at)
   cond (le (abs_of v.slope) (allowed_of steps_tolerance g.at)) (ret g.at) (passes here n (narrowed_of g v.slope v.curvature))
 
-pub record Peak : Type 0 where
-  pub at : Float
-  pub log : Float
-  pub curvature : Float
-
 -- reason 2, mode not converged: the slope there is not small, or the curvature not above zero
-unfoldable pub confirmed : (Float → Eval) → Float → Work Eval Point Peak
+unfoldable pub confirmed : (Float → Eval) → Float → Work Eval Point Mode
 confirmed here z = do
   v ← eval (here z)
   cond (lt (allowed_of mode_tolerance z) (abs_of v.slope)) (stop (domain 2))
@@ -56,33 +47,7 @@ confirmed here z = do
 abbrev pub start_of : Float → Float → Guess
 start_of lo hi = record { lo = lo; hi = hi; at = clamp_of zero· lo hi }
 
-unfoldable pub peak : (Float → Eval) → Float → Float → Work Eval Point Peak
+unfoldable pub peak : (Float → Eval) → Float → Float → Work Eval Point Mode
 peak here lo hi = do
   z ← passes here 100 (start_of lo hi)
   confirmed here z
-
--- ---- the code's answers
-
-unfoldable pub passed_from : Posterior → ℕ → Guess → Number
-passed_from p n g = told (to_number p) zero· (from p (passes (here p) n g))
-
-unfoldable pub steps_of : Posterior → Guess → Number
-steps_of p g = passed_from p 100 g
-
-abbrev pub no_peak : Peak
-no_peak = record { at = zero·; log = zero·; curvature = zero· }
-
-abbrev of_peak : Ending → Posterior → Peak → Mode
-of_peak e p m = record { end = e; p = p; at = m.at; log = m.log; curvature = m.curvature }
-
-abbrev pub to_mode : Posterior → Ending → ℕ → Peak → Mode
-to_mode p e n m = of_peak e (counted p n) m
-
-abbrev pub nothing_of : Ending → Posterior → Mode
-nothing_of e p = of_peak e p no_peak
-
-unfoldable pub confirm_of : Posterior → Float → Mode
-confirm_of p z = told (to_mode p) no_peak (from p (confirmed (here p) z))
-
-unfoldable pub find_of : Posterior → Float → Float → Mode
-find_of p lo hi = told (to_mode p) no_peak (from p (peak (here p) lo hi))

@@ -1,90 +1,46 @@
 // The mode's bracket: each end doubled outward until the density rises from there, at most sixteen times, then both ends checked.
-ghost use Rattle.std.specs.Prelude.{◌≡◌};
-ghost use Rattle.mode.specs.Bracket.{double_of, bracket_of, check_of};
+ghost use Rattle.work.specs.Answer.{Did};
+ghost use Rattle.posterior.specs.Integrand.{at, here};
+ghost use Rattle.posterior.specs.Side.{first_of};
+ghost use Rattle.mode.specs.Bracket.{doubled, ends, check_ends};
 
-use posterior::flanks::Flanks;
 use posterior::integrand::Posterior;
-use posterior::number::Number;
-use posterior::side::Side;
-use work::Ending;
+use posterior::side::{Ends, Side};
+use work::{Meter, Refusal};
 
 // One end.
-fn double(p: Posterior, side: Side) -> Number
-    ensures { result ≡ double_of p side }
+fn double(p: Posterior, side: Side, meter: &mut Meter) -> Result<f64, Refusal>
+    ensures { Did at (doubled (here p) side 16 (first_of side)) meter.old result meter.new }
 {
-    let mut q = p;
-    let mut z = posterior::side::first(side);
+    let mut z = side.first();
     for _ in 0..16u64 {
-        let a = posterior::integrand::evaluate(q, z);
-        let end = a.end;
-        q = a.p;
-        if work::refused(end) {
-            return posterior::number::nothing(end, q);
-        }
-        if posterior::side::rises(side, a.v.slope) {
-            return Number {
-                end: Ending::Answered,
-                p: q,
-                value: z,
-            };
+        let v = p.evaluate(z, meter)?;
+        if side.rises(v.slope) {
+            return Ok(z);
         }
         z = z * 2.0;
     }
-    Number {
-        end: Ending::Answered,
-        p: q,
-        value: z,
-    }
+    Ok(z)
 }
 
-pub fn bracket(p: Posterior) -> Flanks
-    ensures { result ≡ bracket_of p }
+pub fn bracket(p: Posterior, meter: &mut Meter) -> Result<Ends, Refusal>
+    ensures { Did at (ends (here p)) meter.old result meter.new }
 {
-    let a = double(p, Side::Left);
-    let end = a.end;
-    let q = a.p;
-    if work::refused(end) {
-        return posterior::flanks::nothing(end, q);
-    }
-    let b = double(q, Side::Right);
-    let end = b.end;
-    let q = b.p;
-    if work::refused(end) {
-        return posterior::flanks::nothing(end, q);
-    }
-    Flanks {
-        end: Ending::Answered,
-        p: q,
-        left: a.value,
-        right: b.value,
-    }
+    let left = double(p, Side::Left, meter)?;
+    let right = double(p, Side::Right, meter)?;
+    Ok(Ends { left, right })
 }
 
-pub fn check(p: Posterior, lo: f64, hi: f64) -> Flanks
-    ensures { result ≡ check_of p lo hi }
+pub fn check(p: Posterior, e: Ends, meter: &mut Meter) -> Result<Ends, Refusal>
+    ensures { Did at (check_ends (here p) e) meter.old result meter.new }
 {
-    let a = posterior::integrand::evaluate(p, lo);
-    let end = a.end;
-    let q = a.p;
-    if work::refused(end) {
-        return posterior::flanks::nothing(end, q);
+    let low = p.evaluate(e.left, meter)?;
+    if Side::Left.flat(low.slope) {
+        return Err(Refusal::Domain(1));
     }
-    if posterior::side::flat(Side::Left, a.v.slope) {
-        return posterior::flanks::nothing(Ending::Domain(1), q);
+    let high = p.evaluate(e.right, meter)?;
+    if Side::Right.flat(high.slope) {
+        return Err(Refusal::Domain(1));
     }
-    let b = posterior::integrand::evaluate(q, hi);
-    let end = b.end;
-    let q = b.p;
-    if work::refused(end) {
-        return posterior::flanks::nothing(end, q);
-    }
-    if posterior::side::flat(Side::Right, b.v.slope) {
-        return posterior::flanks::nothing(Ending::Domain(1), q);
-    }
-    Flanks {
-        end: Ending::Answered,
-        p: q,
-        left: lo,
-        right: hi,
-    }
+    Ok(e)
 }

@@ -4,11 +4,13 @@
 pub mod bracket;
 
 ghost use Rattle.std.specs.Prelude.{◌≡◌};
-ghost use Rattle.mode.specs.Mode.{nothing_of, allowed_of, narrowed_of, steps_of, confirm_of, find_of};
+ghost use Rattle.work.specs.Answer.{Did};
+ghost use Rattle.posterior.specs.Integrand.{at, here};
+ghost use Rattle.mode.specs.Mode.{allowed_of, narrowed_of, passes, confirmed, peak};
 
 use posterior::integrand::Posterior;
-use posterior::number::Number;
-use work::Ending;
+use posterior::side::Ends;
+use work::{Meter, Refusal};
 
 // A bracket and a guess inside it.
 #[derive(Clone, Copy)]
@@ -20,23 +22,9 @@ pub struct Guess {
 
 #[derive(Clone, Copy)]
 pub struct Mode {
-    pub end: Ending,
-    pub p: Posterior,
     pub at: f64,
     pub log: f64,
     pub curvature: f64,
-}
-
-pub fn nothing(end: Ending, p: Posterior) -> Mode
-    ensures { result ≡ nothing_of end p }
-{
-    Mode {
-        end,
-        p,
-        at: 0.0,
-        log: 0.0,
-        curvature: 0.0,
-    }
 }
 
 // A slope at z counts as zero up to c times 1 + |z|.
@@ -46,84 +34,60 @@ fn allowed(c: f64, z: f64) -> f64
     c * (1.0 + num::abs(z))
 }
 
-fn narrowed(g: Guess, d: f64, k: f64) -> Guess
-    ensures { result ≡ narrowed_of g d k }
-{
-    let rising = d > 0.0;
-    let lo = num::pick(rising, g.at, g.lo);
-    let hi = num::pick(rising, g.hi, g.at);
-    let next = g.at + d / k;
-    let inside = num::both(next > lo, next < hi);
-    let at = num::pick(inside, next, 0.5 * (lo + hi));
-    Guess { lo, hi, at }
+impl Guess {
+    // The guess after this one, where the slope is d and the curvature k.
+    fn narrowed(self, d: f64, k: f64) -> Guess
+        ensures { result ≡ narrowed_of self d k }
+    {
+        let rising = d > 0.0;
+        let lo = num::pick(rising, self.at, self.lo);
+        let hi = num::pick(rising, self.hi, self.at);
+        let next = self.at + d / k;
+        let inside = num::both(next > lo, next < hi);
+        let at = num::pick(inside, next, 0.5 * (lo + hi));
+        Guess { lo, hi, at }
+    }
 }
 
-fn steps(p: Posterior, start: Guess) -> Number
-    ensures { result ≡ steps_of p start }
+fn steps(p: Posterior, start: Guess, meter: &mut Meter) -> Result<f64, Refusal>
+    ensures { Did at (passes (here p) 100 start) meter.old result meter.new }
 {
-    let mut q = p;
     let mut g = start;
     for _ in 0..100u64 {
-        let a = posterior::integrand::evaluate(q, g.at);
-        let end = a.end;
-        q = a.p;
-        if work::refused(end) {
-            return posterior::number::nothing(end, q);
+        let v = p.evaluate(g.at, meter)?;
+        if num::abs(v.slope) <= allowed(1e-12, g.at) {
+            return Ok(g.at);
         }
-        if num::abs(a.v.slope) <= allowed(1e-12, g.at) {
-            return Number {
-                end: Ending::Answered,
-                p: q,
-                value: g.at,
-            };
-        }
-        let n = narrowed(g, a.v.slope, a.v.curvature);
-        g = n;
+        g = g.narrowed(v.slope, v.curvature);
     }
-    Number {
-        end: Ending::Answered,
-        p: q,
-        value: g.at,
-    }
+    Ok(g.at)
 }
 
-fn confirm(p: Posterior, z: f64) -> Mode
-    ensures { result ≡ confirm_of p z }
+fn confirm(p: Posterior, z: f64, meter: &mut Meter) -> Result<Mode, Refusal>
+    ensures { Did at (confirmed (here p) z) meter.old result meter.new }
 {
-    let a = posterior::lent::evaluate_lent(p, z);
-    let end = a.end;
-    let q = a.p;
-    if work::refused(end) {
-        return nothing(end, q);
+    let v = p.evaluate(z, meter)?;
+    if num::abs(v.slope) > allowed(1e-9, z) {
+        return Err(Refusal::Domain(2));
     }
-    if num::abs(a.v.slope) > allowed(1e-9, z) {
-        return nothing(Ending::Domain(2), q);
+    if v.curvature <= 0.0 {
+        return Err(Refusal::Domain(2));
     }
-    if a.v.curvature <= 0.0 {
-        return nothing(Ending::Domain(2), q);
-    }
-    Mode {
-        end: Ending::Answered,
-        p: q,
+    Ok(Mode {
         at: z,
-        log: a.v.log,
-        curvature: a.v.curvature,
-    }
+        log: v.log,
+        curvature: v.curvature,
+    })
 }
 
-pub fn find(p: Posterior, lo: f64, hi: f64) -> Mode
-    ensures { result ≡ find_of p lo hi }
+pub fn find(p: Posterior, within: Ends, meter: &mut Meter) -> Result<Mode, Refusal>
+    ensures { Did at (peak (here p) within.left within.right) meter.old result meter.new }
 {
     let start = Guess {
-        lo,
-        hi,
-        at: num::clamp(0.0, lo, hi),
+        lo: within.left,
+        hi: within.right,
+        at: num::clamp(0.0, within.left, within.right),
     };
-    let s = steps(p, start);
-    let end = s.end;
-    let q = s.p;
-    if work::refused(end) {
-        return nothing(end, q);
-    }
-    confirm(q, s.value)
+    let z = steps(p, start, meter)?;
+    confirm(p, z, meter)
 }

@@ -11,6 +11,7 @@ use legendre::Pair;
 use posterior::integrand::Posterior;
 
 // No evaluation is counted here: the caller has seen that the limit covers all sixteen.
+#[tactic(auto, using(crate::specs::Batch::batch))]
 pub fn sixteen(
     p: Posterior,
     rule: [Pair; 16],

@@ -3,6 +3,7 @@ ghost use Rattle.std.specs.Prelude.{◌≡◌};
 ghost use Rattle.nodes.specs.Stages.{places_of, etas_of, heights_of};
 
 use legendre::Pair;
+use std::array;
 
 const LOG_TWO_PI: f64 = 1.8378770664093453;
 
@@ -10,31 +11,19 @@ const LOG_TWO_PI: f64 = 1.8378770664093453;
 pub fn places(center: f64, width: f64, rule: [Pair; 16]) -> [f64; 16]
     ensures { result ≡ places_of center width rule }
 {
-    let mut z = [0.0; 16];
-    for i in 0..16usize {
-        z[i] = center + 0.5 * width * rule[i].x;
-    }
-    z
+    array::from_fn(|i| center + 0.5 * width * rule[i].x)
 }
 
 // The place on the probit scale.
 pub fn etas(mean: f64, sd: f64, z: [f64; 16]) -> [f64; 16]
     ensures { result ≡ etas_of mean sd z }
 {
-    let mut x = [0.0; 16];
-    for i in 0..16usize {
-        x[i] = mean + sd * z[i];
-    }
-    x
+    array::from_fn(|i| mean + sd * z[i])
 }
 
 // The logarithm of the integrand, below that at the mode.
 pub fn heights(log: [f64; 16], z: [f64; 16], top: f64) -> [f64; 16]
     ensures { result ≡ heights_of log z top }
 {
-    let mut h = [0.0; 16];
-    for i in 0..16usize {
-        h[i] = log[i] - 0.5 * z[i] * z[i] - 0.5 * LOG_TWO_PI - top;
-    }
-    h
+    array::from_fn(|i| log[i] - 0.5 * z[i] * z[i] - 0.5 * LOG_TWO_PI - top)
 }

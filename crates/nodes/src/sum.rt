@@ -23,6 +23,7 @@ pub fn added(sum: [f64; 6], weight: f64, moments: [f64; 6]) -> [f64; 6]
 pub fn summed(width: f64, rule: [Pair; 16], e: [f64; 16], m: Moments, sum: [f64; 6]) -> [f64; 6]
     ensures { result ≡ summed_of width rule e m sum }
 {
+    // By index: four arrays and the rule are read at each place, and a zip of six would be no plainer.
     let mut s = sum;
     for i in 0..16usize {
         let moments = [

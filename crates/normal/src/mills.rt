@@ -23,14 +23,13 @@ fn fraction(t: f64) -> f64
     ensures { result ≡ fraction_of t }
 {
     let mut f = 0.0;
-    let mut k: u32 = 64;
-    while 0 < k {
-        f = k as f64 / (t + f);
-        k -= 1;
+    for before in 0..64u32 {
+        f = (64 - before) as f64 / (t + f);
     }
     f
 }
 
+#[tactic(auto, unfolding(crate::specs::Normal::normal_tail))]
 fn tail(x: f64) -> LogMills
     ensures { result ≡ normal_tail x }
 {
@@ -42,6 +41,7 @@ fn tail(x: f64) -> LogMills
     }
 }
 
+#[tactic(auto, unfolding(crate::specs::Normal::normal_centre))]
 fn centre(x: f64) -> LogMills
     ensures { result ≡ normal_centre x }
 {
@@ -53,6 +53,7 @@ fn centre(x: f64) -> LogMills
     }
 }
 
+#[tactic(auto, unfolding(crate::specs::Normal::normal_of))]
 pub fn normal(x: f64) -> LogMills
     ensures { result ≡ normal_of x }
 {

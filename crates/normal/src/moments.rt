@@ -34,6 +34,7 @@ pub fn failures(successes: u32, total: u32) -> u32
 }
 
 // s to the fourth power, as `powi` multiplies.
+#[tactic(auto, unfolding(num::specs::Helpers::powi_of, num::specs::Helpers::powi_from))]
 fn fourth(s: f64) -> f64
     ensures { result ≡ powi_of s 4 }
 {
@@ -42,6 +43,7 @@ fn fourth(s: f64) -> f64
 }
 
 // y successes and f failures, with the logarithms lp and lm and the derivatives p and q of each.
+#[tactic(auto, unfolding(crate::specs::Conditional::combined_of))]
 pub fn combined(y: f64, f: f64, lp: f64, lm: f64, p: [f64; 4], q: [f64; 4]) -> ConditionalLog
     ensures { result ≡ combined_of y f lp lm p q }
 {
@@ -60,6 +62,7 @@ pub fn combined(y: f64, f: f64, lp: f64, lm: f64, p: [f64; 4], q: [f64; 4]) -> C
     }
 }
 
+#[tactic(auto, unfolding(crate::specs::Conditional::conditional_of))]
 pub fn conditional(eta: f64, successes: u32, total: u32) -> ConditionalLog
     ensures { result ≡ conditional_of eta successes total }
 {

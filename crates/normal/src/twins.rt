@@ -1,9 +1,8 @@
 // The normal distribution at x and at -x at once: erfc(-t) is 2 - erfc(t), so one erfc serves both.
 ghost use Rattle.std.specs.Prelude.{◌≡◌, true};
 ghost use Rattle.std.specs.Float.Ieee.{neg};
-ghost use Rattle.elementary.specs.Erfc.{erfc_of, erfc_pos_of};
-ghost use Rattle.normal.specs.Normal.{normal_of};
-ghost use Rattle.normal.specs.Twins.{size_of, serves_of, by_cdf_of, centres_of};
+ghost use Rattle.elementary.specs.Erfc.{erfc_pos_of};
+ghost use Rattle.normal.specs.Twins.{size_of, serves_of, by_cdf_of, centres_of, HasErfcs, HasNormals};
 
 use crate::mills::LogMills;
 
@@ -23,7 +22,7 @@ pub struct Erfcs {
 }
 
 fn apart(x: f64) -> Erfcs
-    ensures { (result.at ≡ erfc_of x) × (result.across ≡ erfc_of (neg x)) }
+    ensures { HasErfcs x result }
 {
     Erfcs {
         at: elementary::erfc::erfc(x),
@@ -33,6 +32,7 @@ fn apart(x: f64) -> Erfcs
 
 // Whether erfc across zero from x serves x too: where x is below zero. There the tests of -x are never met; they spare
 // a proof of what it is.
+#[tactic(auto, unfolding(crate::specs::Twins::serves_of))]
 fn serves(x: f64) -> bool
     ensures { result ≡ serves_of x }
 {
@@ -45,25 +45,18 @@ fn serves(x: f64) -> bool
     x < 0.0
 }
 
-// Asks for erfc itself, past the test, and writes out what `served` has: so an evaluation takes fewer instructions.
 fn below(x: f64) -> Erfcs
-    ensures { (result.at ≡ erfc_of x) × (result.across ≡ erfc_of (neg x)) }
+    ensures { HasErfcs x result }
 {
     if serves(x) {
-        let p = elementary::erfc::erfc_pos(-x);
-        if x < -6.0 {
-            return Erfcs { at: 2.0, across: p };
-        }
-        return Erfcs {
-            at: 2.0 - p,
-            across: p,
-        };
+        return served(x, elementary::erfc::erfc_pos(-x));
     }
     apart(x)
 }
 
+#[tactic(auto, using(crate::proofs::TwinsLaws::back))]
 fn erfc_at_both(x: f64) -> Erfcs
-    ensures { (result.at ≡ erfc_of x) × (result.across ≡ erfc_of (neg x)) }
+    ensures { HasErfcs x result }
 {
     if x < 0.0 {
         return below(x);
@@ -79,13 +72,15 @@ fn erfc_at_both(x: f64) -> Erfcs
 pub fn size(x: f64) -> f64
     ensures { result ≡ size_of x }
 {
-    num::pick(x < 0.0, -x, x)
+    if x < 0.0 { -x } else { x }
 }
 
 // p is erfc across zero from an x that it serves.
+#[tactic(auto, using(crate::proofs::TwinsLaws::far_served, crate::proofs::TwinsLaws::near_served, crate::proofs::TwinsLaws::across_served))]
 fn served(x: f64, p: f64) -> Erfcs
-    requires { (serves_of x ≡ true) × (p ≡ erfc_pos_of (neg x)) }
-    ensures { (result.at ≡ erfc_of x) × (result.across ≡ erfc_of (neg x)) }
+    requires serves { serves_of x ≡ true }
+    requires across { p ≡ erfc_pos_of (neg x) }
+    ensures { HasErfcs x result }
 {
     if x < -6.0 {
         return Erfcs { at: 2.0, across: p };
@@ -99,7 +94,7 @@ fn served(x: f64, p: f64) -> Erfcs
 // p is erfc across zero from x.
 fn below_with(x: f64, p: f64) -> Erfcs
     requires { p ≡ erfc_pos_of (neg x) }
-    ensures { (result.at ≡ erfc_of x) × (result.across ≡ erfc_of (neg x)) }
+    ensures { HasErfcs x result }
 {
     if serves(x) {
         return served(x, p);
@@ -108,9 +103,10 @@ fn below_with(x: f64, p: f64) -> Erfcs
 }
 
 // p is erfc of the size of x.
+#[tactic(auto, using(crate::proofs::TwinsLaws::size_below, crate::proofs::TwinsLaws::size_above, crate::proofs::TwinsLaws::back))]
 pub fn erfc_with(x: f64, p: f64) -> Erfcs
     requires { p ≡ erfc_pos_of (size_of x) }
-    ensures { (result.at ≡ erfc_of x) × (result.across ≡ erfc_of (neg x)) }
+    ensures { HasErfcs x result }
 {
     if x < 0.0 {
         return below_with(x, p);
@@ -132,6 +128,7 @@ fn by_cdf(phi: f64, cdf: f64) -> LogMills
     }
 }
 
+#[tactic(auto, using(crate::proofs::TwinsLaws::centres_are))]
 fn centres(x: f64) -> Twins
     ensures { result ≡ centres_of x }
 {
@@ -143,15 +140,16 @@ fn centres(x: f64) -> Twins
 }
 
 fn far(x: f64) -> Twins
-    ensures { (result.low ≡ normal_of x) × (result.high ≡ normal_of (neg x)) }
+    ensures { HasNormals x result }
 {
     let low = crate::mills::normal(x);
     let high = crate::mills::normal(-x);
     Twins { low, high }
 }
 
+#[tactic(auto, using(crate::proofs::TwinsLaws::low_centre, crate::proofs::TwinsLaws::high_centre))]
 pub fn at_both(x: f64) -> Twins
-    ensures { (result.low ≡ normal_of x) × (result.high ≡ normal_of (neg x)) }
+    ensures { HasNormals x result }
 {
     if x < -8.0 {
         return far(x);

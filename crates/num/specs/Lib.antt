@@ -11,3 +11,4 @@ pub mod Filled
 pub mod Numbers
 pub mod Leading
 pub mod Compare
+pub mod Made

@@ -1,12 +1,13 @@
-// Helpers on f64 that Rust has as methods. Each contract is a definition that a caller rewrites by.
+// Helpers on f64. std's methods of these names answer otherwise at zeros and at a NaN. Each contract is a definition that a caller rewrites by.
 #![tactic(auto)]
 
-ghost use Rattle.std.specs.Prelude.{◌≡◌, ◌&&◌, ◌||◌, cond, [], ◌∷◌};
+ghost use Rattle.std.specs.Prelude.{◌≡◌, ◌&&◌, ◌||◌, cond};
 ghost use Rattle.std.specs.Float.{nan};
 ghost use Rattle.num.specs.F64.{infinity·};
 ghost use Rattle.num.specs.Helpers.{abs_of, is_finite_of, max_of, min_of, clamp_of, powi_of, sum_of};
 
 // 0 - x is +0 at both zeros, and a NaN fails the test.
+#[tactic(auto, unfolding(crate::specs::Helpers::abs_of))]
 pub fn abs(x: f64) -> f64
     ensures { result ≡ abs_of x }
 {
@@ -20,6 +21,7 @@ pub fn is_finite(x: f64) -> bool
     if x < top { -top < x } else { false }
 }
 
+#[tactic(auto, unfolding(crate::specs::Helpers::max_of))]
 pub fn max(a: f64, b: f64) -> f64
     ensures { result ≡ max_of a b }
 {
@@ -35,12 +37,14 @@ pub fn max(a: f64, b: f64) -> f64
     if a != a { b } else { a }
 }
 
+#[tactic(auto, unfolding(crate::specs::Helpers::min_of))]
 pub fn min(a: f64, b: f64) -> f64
     ensures { result ≡ min_of a b }
 {
     -max(-a, -b)
 }
 
+#[tactic(auto, unfolding(crate::specs::Helpers::clamp_of))]
 pub fn clamp(x: f64, low: f64, high: f64) -> f64
     ensures { result ≡ clamp_of x low high }
 {
@@ -75,9 +79,12 @@ pub fn powi(x: f64, k: u32) -> f64
     let mut square = x;
     let mut left = k;
     let mut r = 1.0;
+    // A bit of k a turn: there is no list to go over.
     while 0 < left {
         let odd = left % 2 == 1;
-        r = pick(odd, r * square, r);
+        if odd {
+            r = r * square;
+        }
         square = square * square;
         left = left / 2;
     }
@@ -85,27 +92,25 @@ pub fn powi(x: f64, k: u32) -> f64
 }
 
 // A sum from the left that starts at plus zero.
-pub fn sum_of_four(a: f64, b: f64, c: f64, d: f64) -> f64
-    ensures { result ≡ sum_of (a ∷ b ∷ c ∷ d ∷ []) }
+pub fn sum(terms: &[f64]) -> f64
+    ensures { result ≡ sum_of terms.now }
 {
-    0.0 + a + b + c + d
-}
-
-pub fn sum_of_five(a: f64, b: f64, c: f64, d: f64, e: f64) -> f64
-    ensures { result ≡ sum_of (a ∷ b ∷ c ∷ d ∷ e ∷ []) }
-{
-    0.0 + a + b + c + d + e
+    let mut s = 0.0;
+    for x in terms {
+        s = s + *x;
+    }
+    s
 }
 
 // The two values that no literal writes.
 pub fn infinity() -> f64
     ensures { result ≡ infinity· }
 {
-    f64::from_bits(0x7ff0_0000_0000_0000)
+    f64::INFINITY
 }
 
 pub fn not_a_number() -> f64
     ensures { result ≡ nan }
 {
-    0.0 / 0.0
+    f64::NAN
 }

@@ -7,7 +7,7 @@ use Prim.Native.Nat.{ℕ, zero, suc, ◌+◌, ◌*◌, ◌≤◌, min, zero-le}
 use Rattle.std.proofs.Math.Nat.{add_comm, sub-zero, zero-add}
 use Rattle.num.specs.Both.{and_right}
 use Rattle.work.specs.declared.QuadratureEvaluations.{QuadratureEvaluations}
-use Rattle.work.specs.Work.{run, listed, listed_l, told}
+use Rattle.work.specs.Work.{run, metered, listed, listed_l}
 use Rattle.work.specs.AtMost.{AtMost, rets, stops, either, both, more, at_most_listed}
 use Rattle.work.specs.Metered.{metered_is, within, split}
 use Rattle.work.specs.Share.{in_full_lem, cap}
@@ -21,7 +21,7 @@ use Rattle.litters.specs.Checks.{at_most_128}
 use Rattle.objective.specs.Point.{valid_point_of}
 use Rattle.value.specs.Totals.{no_totals}
 use Rattle.objective.specs.Totals.{finite_totals}
-use Rattle.objective.specs.Objective.{rows, admits, objective, to_objective, limited_objective_of, objective_of}
+use Rattle.objective.specs.Objective.{rows, admits, objective, told_objective, used_in, told_used, limited_objective_of, objective_of}
 
 module _ (rule : List Pair) (x : List Float) (ls : List ℕ) where
   pub rows_at_most : (n i : ℕ) (t : Totals) → AtMost (n * 32933) (rows rule x ls n i t)
@@ -41,24 +41,25 @@ module _ (rule : List Pair) (x : List Float) (ls : List ℕ) where
   objective_listed = at_most_listed at objective_at_most
 
   -- the count that the code reports is the length of the list made under its limit
-  pub objective_count : (limit : QuadratureEvaluations) → (limited_objective_of rule x ls limit).used.0 ≡ length (listed_l at limit.0 (objective rule x ls))
+  pub objective_count : (limit : QuadratureEvaluations) → used_in (limited_objective_of rule x ls limit) ≡ length (listed_l at limit.0 (objective rule x ls))
   unfolding limited_objective_of
   objective_count limit =
       let w = objective rule x ls in
-      ap (λ m. m.used) (metered_is at limit.0 0 w) ∙ rw (sub-zero limit.0, zero-add (length (listed_l at limit.0 w)))
+      told_used (metered at limit.0 0 w).ended (metered at limit.0 0 w).used ∙ ap (λ m. m.used) (metered_is at limit.0 0 w) ∙ rw (sub-zero limit.0, zero-add (length (listed_l at limit.0 w)))
 
   -- it is never above the limit, nor above 4,215,424
-  pub objective_within : (limit : QuadratureEvaluations) → (limited_objective_of rule x ls limit).used.0 ≤ min limit.0 4215424
+  pub objective_within : (limit : QuadratureEvaluations) → used_in (limited_objective_of rule x ls limit) ≤ min limit.0 4215424
   unfolding limited_objective_of
   objective_within limit =
       let w = objective rule x ls in
-      rw (← cap at w limit.0 4215424 objective_at_most (lit≤ tt)) (within at (min limit.0 4215424) 0 w zero-le)
+      let h : (metered at limit.0 0 w).used ≤ min limit.0 4215424 = rw (← cap at w limit.0 4215424 objective_at_most (lit≤ tt)) (within at (min limit.0 4215424) 0 w zero-le) in
+      rw (told_used (metered at limit.0 0 w).ended (metered at limit.0 0 w).used) h
 
 -- called alone it is the run without a limit
-pub objective_in_full : (x : List Float) (ls : List ℕ) → objective_of x ls ≡ told to_objective no_totals (record { ended = run at (objective legendre_of x ls); used = length (listed at (objective legendre_of x ls)) })
+pub objective_in_full : (x : List Float) (ls : List ℕ) → objective_of x ls ≡ told_objective (record { ended = run at (objective legendre_of x ls); used = length (listed at (objective legendre_of x ls)) })
 unfolding objective_of limited_objective_of
 objective_in_full x ls = rw (in_full_lem at (objective legendre_of x ls) 8388608 (objective_at_most legendre_of x ls) (lit≤ tt))
 
-pub alone_within : (x : List Float) (ls : List ℕ) → (objective_of x ls).used.0 ≤ 4215424
+pub alone_within : (x : List Float) (ls : List ℕ) → used_in (objective_of x ls) ≤ 4215424
 unfolding objective_of
 alone_within x ls = objective_within legendre_of x ls (record { 0 = 8388608 })

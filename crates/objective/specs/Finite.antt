@@ -1,5 +1,5 @@
 -- An answered objective is finite in every entry: the likelihood, the gradient and the Hessian.
-use Rattle.std.specs.Prelude.{◌≡◌, refl, true, List, [], ◌∷◌, T, length, get_or, set, Float}
+use Rattle.std.specs.Prelude.{◌≡◌, refl, true, List, [], ◌∷◌, T, length, get_or, set, Ok, Float}
 use Rattle.std.proofs.Common.{◌∙◌, length-set}
 use Prim.Native.Nat.{ℕ, zero, suc, ◌+◌, ◌*◌, ◌<◌}
 use Rattle.std.specs.Float.{nan}
@@ -9,18 +9,19 @@ use Rattle.std.specs.Float.Ieee.Fits.{nan-fits, add-fits}
 use Rattle.num.specs.Both.{and_left, and_right}
 use Rattle.num.specs.Helpers.{is_finite_of}
 use Rattle.finite.specs.Finite.{all_finite_of, each_finite}
-use Rattle.work.specs.declared.Ending.TheVariants.{Answered}
 use Rattle.work.specs.declared.QuadratureEvaluations.{QuadratureEvaluations}
-use Rattle.work.specs.Given.{Always, holds, refuses, tested, passed, anything, of_answer}
-use Rattle.row.specs.Share.{Share}
+use Rattle.work.specs.Given.{Always, holds, refuses, tested, passed, anything, of_metered}
+use Rattle.row.specs.declared.share.Share.{Share}
 use Rattle.legendre.specs.declared.Pair.{Pair}
 use Rattle.legendre.specs.Legendre.{legendre_of}
+use Rattle.work.specs.Work.{metered}
 use Rattle.posterior.specs.Integrand.{at}
+use Rattle.objective.specs.declared.sum.Objective.{Objective}
 use Rattle.value.specs.declared.Totals.{Totals}
 use Rattle.value.specs.Totals.{no_totals}
 use Rattle.litters.specs.Litters.{count_of, group_at}
 use Rattle.objective.specs.Totals.{raised, index_of, with_share, finite_totals}
-use Rattle.objective.specs.Objective.{share_at, rows, admits, objective, limited_objective_of, objective_of}
+use Rattle.objective.specs.Objective.{share_at, rows, admits, objective, told_value, limited_objective_of, objective_of}
 
 -- said of a likelihood, a gradient of four entries and a Hessian of sixteen
 pub record Finite (nll : Float) (gradient hessian : List Float) : Type 0 where
@@ -107,10 +108,10 @@ module _ (rule : List Pair) (x : List Float) (ls : List ℕ) where
   objective_known = tested (admits x ls) (λ t. rows_known (count_of ls) 0 no_totals (record { gradient = refl; hessian = refl; value = of_bits-fits binary64 0; written = nothing_written })) (λ t. refuses)
 
   -- under a limit, and called alone
-  pub limited_finite : (limit : QuadratureEvaluations) → (limited_objective_of rule x ls limit).end ≡ Answered → Finite (limited_objective_of rule x ls limit).v.nll (limited_objective_of rule x ls limit).v.gradient (limited_objective_of rule x ls limit).v.hessian
+  pub limited_finite : (limit : QuadratureEvaluations) (o : Objective) → limited_objective_of rule x ls limit ≡ Ok o → Finite o.v.nll o.v.gradient o.v.hessian
   unfolding limited_objective_of
-  limited_finite limit h = (of_answer at (λ e. tt) limit.0 0 no_totals objective_known h).finite
+  limited_finite limit o h = (of_metered at (λ e. tt) limit.0 0 o.v objective_known (told_value (metered at limit.0 0 (objective rule x ls)).ended _ o h)).finite
 
-pub objective_finite : (x : List Float) (ls : List ℕ) → (objective_of x ls).end ≡ Answered → Finite (objective_of x ls).v.nll (objective_of x ls).v.gradient (objective_of x ls).v.hessian
+pub objective_finite : (x : List Float) (ls : List ℕ) (o : Objective) → objective_of x ls ≡ Ok o → Finite o.v.nll o.v.gradient o.v.hessian
 unfolding objective_of
-objective_finite x ls h = limited_finite legendre_of x ls (record { 0 = 8388608 }) h
+objective_finite x ls o h = limited_finite legendre_of x ls (record { 0 = 8388608 }) o h

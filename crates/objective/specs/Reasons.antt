@@ -1,16 +1,14 @@
 -- What the objective's answer is where it is refused: InvalidInput with count 0 where a check fails, a Domain with a reason from 1 to 6, never WorkBudget
--- where it is called alone; and then its ending and its count, beside zeros.
-use Rattle.std.specs.Prelude.{◌≡◌, true, false, List, Float}
-use Rattle.std.proofs.Common.{ap, sym, ◌∙◌}
+-- where it is called alone. A refusal has its count beside it and no value.
+use Rattle.std.specs.Prelude.{◌≡◌, true, false, List, Err, Float}
+use Rattle.std.proofs.Common.{sym, ◌∙◌}
 use Prim.Native.Nat.{ℕ, zero, suc, ◌+◌, ◌≤◌}
 use Rattle.std.proofs.Math.Dec.{lit≤}
-use Rattle.work.specs.declared.Ending.TheVariants.{InvalidInput, Domain, WorkBudget}
+use Rattle.work.specs.declared.Refusal.TheVariants.{InvalidInput, Domain, WorkBudget}
 use Rattle.work.specs.declared.QuadratureEvaluations.{QuadratureEvaluations}
-use Rattle.work.specs.Ended.{invalid, domain, is_refused}
-use Rattle.work.specs.Work.{metered}
-use Rattle.work.specs.Metered.{branch, gives_up}
-use Rattle.work.specs.Stops.{Stops, answers, refuses, others, chosen, passed, Reasoned, OrInvalid, or_invalid, more_reasons, metered_domain, run_not_short}
-use Rattle.work.specs.Refused.{told_refused}
+use Rattle.work.specs.Ended.{invalid, domain}
+use Rattle.work.specs.Work.{run, metered}
+use Rattle.work.specs.Stops.{Stops, answers, refuses, others, chosen, passed, Reasoned, OrInvalid, or_invalid, more_reasons, of_metered, run_not_short}
 use Rattle.legendre.specs.declared.Pair.{Pair}
 use Rattle.legendre.specs.Legendre.{legendre_of}
 use Rattle.posterior.specs.Integrand.{at}
@@ -18,8 +16,9 @@ use Rattle.row.specs.Reasons.{share_reasons}
 use Rattle.value.specs.declared.Totals.{Totals}
 use Rattle.value.specs.Totals.{no_totals}
 use Rattle.litters.specs.Litters.{count_of}
+use Rattle.objective.specs.declared.sum.Refused.{Refused}
 use Rattle.objective.specs.Totals.{finite_totals}
-use Rattle.objective.specs.Objective.{rows, admits, objective, to_objective, refusal_of, limited_objective_of, objective_of}
+use Rattle.objective.specs.Objective.{rows, admits, objective, refused_of, told_domain, told_short, limited_objective_of, objective_of}
 use Rattle.objective.specs.Bound.{objective_in_full}
 
 module _ (rule : List Pair) (x : List Float) (ls : List ℕ) where
@@ -39,32 +38,33 @@ module _ (rule : List Pair) (x : List Float) (ls : List ℕ) where
   admitted_reasons h = rw h (rows_reasons (count_of ls) 0 no_totals)
 
   module _ (limit : QuadratureEvaluations) where
-    pub limited_domain : (r : ℕ) → (limited_objective_of rule x ls limit).end ≡ Domain r → (1 ≤ r) × (r ≤ 6)
+    pub limited_domain : (r n : ℕ) → limited_objective_of rule x ls limit ≡ Err (refused_of (Domain r) n) → (1 ≤ r) × (r ≤ 6)
     unfolding limited_objective_of
-    limited_domain r e = metered_domain at limit.0 0 r objective_reasons e
+    limited_domain r n e = of_metered at limit.0 0 (domain r) objective_reasons (told_domain (metered at limit.0 0 (objective rule x ls)).ended _ n r e)
 
-    pub limited_refused : is_refused (limited_objective_of rule x ls limit).end ≡ true → limited_objective_of rule x ls limit ≡ refusal_of (limited_objective_of rule x ls limit).end (limited_objective_of rule x ls limit).used
-    unfolding limited_objective_of
-    limited_refused h = told_refused to_objective no_totals (metered at limit.0 0 (objective rule x ls)) h
+    -- a refusal is why there are no sums, and its count alone
+    pub limited_refused : (e : Refused) → limited_objective_of rule x ls limit ≡ Err e → limited_objective_of rule x ls limit ≡ Err (refused_of e.refusal e.used.0)
+    limited_refused e h = h
 
     -- a point or litters that fail a check
-    pub limited_fails : admits x ls ≡ false → limited_objective_of rule x ls limit ≡ refusal_of InvalidInput (record { 0 = 0 })
-    unfolding limited_objective_of objective
-    limited_fails h = rw (branch, h, gives_up)
+    pub limited_fails : admits x ls ≡ false → limited_objective_of rule x ls limit ≡ Err (refused_of InvalidInput 0)
+    unfolding limited_objective_of objective metered
+    limited_fails h = rw h
 
 -- called alone
 module _ (x : List Float) (ls : List ℕ) where
-  pub objective_domain : (r : ℕ) → (objective_of x ls).end ≡ Domain r → (1 ≤ r) × (r ≤ 6)
+  pub objective_domain : (r n : ℕ) → objective_of x ls ≡ Err (refused_of (Domain r) n) → (1 ≤ r) × (r ≤ 6)
   unfolding objective_of
-  objective_domain r e = limited_domain legendre_of x ls (record { 0 = 8388608 }) r e
+  objective_domain r n e = limited_domain legendre_of x ls (record { 0 = 8388608 }) r n e
 
-  pub objective_refused : is_refused (objective_of x ls).end ≡ true → objective_of x ls ≡ refusal_of (objective_of x ls).end (objective_of x ls).used
-  unfolding objective_of
-  objective_refused h = limited_refused legendre_of x ls (record { 0 = 8388608 }) h
+  pub objective_refused : (e : Refused) → objective_of x ls ≡ Err e → objective_of x ls ≡ Err (refused_of e.refusal e.used.0)
+  objective_refused e h = h
 
-  pub objective_fails : admits x ls ≡ false → objective_of x ls ≡ refusal_of InvalidInput (record { 0 = 0 })
+  pub objective_fails : admits x ls ≡ false → objective_of x ls ≡ Err (refused_of InvalidInput 0)
   unfolding objective_of
   objective_fails h = limited_fails legendre_of x ls (record { 0 = 8388608 }) h
 
-  pub objective_never_short : (objective_of x ls).end ≡ WorkBudget → ⊥
-  objective_never_short e = run_not_short at (objective legendre_of x ls) (sym (ap (λ o. o.end) (objective_in_full x ls)) ∙ e)
+  pub objective_never_short : (n : ℕ) → objective_of x ls ≡ Err (refused_of WorkBudget n) → ⊥
+  objective_never_short n e =
+      let s = told_short (run at (objective legendre_of x ls)) _ n (sym (objective_in_full x ls) ∙ e) in
+      run_not_short at (objective legendre_of x ls) (rw s)

@@ -4,7 +4,7 @@ use Rattle.std.specs.Float.{nan}
 use Rattle.num.specs.F64.{◌⊕◌}
 use Rattle.num.specs.Helpers.{is_finite_of, max_of}
 use Rattle.finite.specs.Finite.{all_finite_of}
-use Rattle.row.specs.Share.{Share}
+use Rattle.row.specs.declared.share.Share.{Share}
 use Rattle.value.specs.declared.Totals.{Totals}
 
 -- a litter's mean is coordinate 0 or 1, its variance two further on

@@ -2,6 +2,7 @@
 ghost use Rattle.std.specs.Prelude.{◌≡◌};
 ghost use Rattle.objective.specs.Point.{valid_mean_of, valid_variance_of, valid_point_of};
 
+#[tactic(auto, unfolding(crate::specs::Point::valid_mean_of))]
 fn valid_mean(x: f64) -> bool
     ensures { result ≡ valid_mean_of x }
 {
@@ -11,6 +12,7 @@ fn valid_mean(x: f64) -> bool
     num::abs(x) <= 8.0
 }
 
+#[tactic(auto, unfolding(crate::specs::Point::valid_variance_of))]
 fn valid_variance(x: f64) -> bool
     ensures { result ≡ valid_variance_of x }
 {
@@ -20,6 +22,7 @@ fn valid_variance(x: f64) -> bool
     num::both(0.0 <= x, x <= 9.0)
 }
 
+#[tactic(auto, unfolding(crate::specs::Point::valid_point_of))]
 pub fn valid_point(x: [f64; 4]) -> bool
     ensures { result ≡ valid_point_of x }
 {

@@ -6,5 +6,5 @@ pub mod sum;
 pub mod totals;
 
 pub use sum::{
-    Named, Objective, limited_objective, named_objective, probit_normal_binomial_objective,
+    Named, Objective, Refused, limited_objective, named_objective, probit_normal_binomial_objective,
 };

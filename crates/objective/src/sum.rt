@@ -1,104 +1,123 @@
 // The objective at a point: the litters' shares, each under what is left of the limit, summed in their order.
 ghost use Rattle.std.specs.Prelude.{◌≡◌, ◌+◌, ◌*◌, ◌<◌, length};
-ghost use Rattle.objective.specs.Objective.{refusal_of, answered_of, ended_of, row_at, limited_objective_of, objective_of};
-ghost use Rattle.objective.specs.Named.{summed_of, named_objective_of};
+ghost use Rattle.work.specs.Answer.{Did};
+ghost use Rattle.posterior.specs.Integrand.{at};
+ghost use Rattle.objective.specs.Objective.{ended_of, share_at, limited_objective_of, objective_of};
+ghost use Rattle.objective.specs.Named.{invalid_of, at_no_litter as unplaced, summed_of, named_objective_of};
 
 use legendre::Pair;
-use row::Row;
+use row::Share;
 use value::Totals;
-use work::{Ending, QuadratureEvaluations};
+use work::{Meter, QuadratureEvaluations, Refusal};
 
-// The coordinates are two means, then two variances.
+// The evaluations made, and the value: its coordinates are two means, then two variances.
 #[derive(Clone, Copy)]
 pub struct Objective {
-    pub end: Ending,
     pub used: QuadratureEvaluations,
     pub v: Totals,
 }
 
-// An objective, and the litter at which it was refused, counted from 1: 0 where none was.
+// Why there is no value, and the evaluations made.
+#[derive(Clone, Copy)]
+pub struct Refused {
+    pub refusal: Refusal,
+    pub used: QuadratureEvaluations,
+}
+
+// A refusal, and the litter at which it came, counted from 1, where it came at one.
 #[derive(Clone, Copy)]
 pub struct Named {
-    pub objective: Objective,
-    pub litter: u64,
-}
-
-fn refusal(end: Ending, used: QuadratureEvaluations) -> Objective
-    ensures { result ≡ refusal_of end used }
-{
-    Objective {
-        end,
-        used,
-        v: value::nothing(),
-    }
-}
-
-fn answered(used: u64, t: Totals) -> Objective
-    ensures { result ≡ answered_of used t }
-{
-    Objective {
-        end: Ending::Answered,
-        used: QuadratureEvaluations(used),
-        v: t,
-    }
+    pub refused: Refused,
+    pub litter: Option<u64>,
 }
 
 // What the sum of all litters comes to.
-pub fn ended(used: u64, t: Totals) -> Objective
+#[tactic(auto, unfolding(crate::specs::Objective::ended_of))]
+pub fn ended(used: u64, t: Totals) -> Result<Objective, Refused>
     ensures { result ≡ ended_of used t }
 {
+    let used = QuadratureEvaluations(used);
     if crate::totals::finite(t) {
-        return answered(used, t);
+        return Ok(Objective { used, v: t });
     }
-    refusal(Ending::Domain(6), QuadratureEvaluations(used))
+    let refusal = Refusal::Domain(6);
+    Err(Refused { refusal, used })
 }
 
-fn litter(i: usize, rule: [Pair; 16], x: [f64; 4], litters: &[u32], limit: u64) -> Row
+// An input that a check refuses.
+fn invalid() -> Named
+    ensures { result ≡ invalid_of }
+{
+    Named {
+        refused: Refused {
+            refusal: Refusal::InvalidInput,
+            used: QuadratureEvaluations(0),
+        },
+        litter: None,
+    }
+}
+
+fn at_no_litter(o: Result<Objective, Refused>) -> Result<Objective, Named>
+    ensures { result ≡ unplaced o }
+{
+    match o {
+        Ok(o) => Ok(o),
+        Err(refused) => {
+            let litter = None;
+            Err(Named { refused, litter })
+        }
+    }
+}
+
+fn litter(
+    i: usize,
+    rule: &[Pair; 16],
+    x: [f64; 4],
+    litters: &[u32],
+    meter: &mut Meter,
+) -> Result<Share, Refusal>
     requires { 3 * i + 2 < length litters.now }
-    ensures { result ≡ row_at rule x litters.now i limit }
+    ensures { Did at (share_at rule.now x litters.now i) meter.old result meter.new }
 {
     let k = 3 * i;
     let successes = litters[k];
     let total = litters[k + 1];
     let g = crate::totals::index(litters[k + 2]);
-    row::row_objective(
-        i as u64,
-        successes,
-        total,
-        rule,
-        x[g],
-        x[g + 2],
-        QuadratureEvaluations(limit),
-    )
+    row::row_objective(i as u64, successes, total, rule, x[g], x[g + 2], meter)
 }
 
-fn summed(rule: [Pair; 16], x: [f64; 4], litters: &[u32], limit: u64) -> Named
+fn summed(
+    rule: [Pair; 16],
+    x: [f64; 4],
+    litters: &[u32],
+    limit: QuadratureEvaluations,
+) -> Result<Objective, Named>
     ensures { result ≡ summed_of rule x litters.now limit }
 {
+    // By index: a litter is three of the numbers, and its place is its name.
     let n = litters.len() / 3;
-    let mut used: u64 = 0;
+    let mut meter = Meter {
+        used: QuadratureEvaluations(0),
+        limit,
+    };
     let mut t = value::nothing();
     for i in 0..n {
         let number = i as u64 + 1;
-        let r = litter(i, rule, x, litters, limit - used);
-        used += r.used.0;
-        let end = r.end;
-        if work::refused(end) {
-            let objective = refusal(end, QuadratureEvaluations(used));
-            return Named {
-                objective,
-                litter: number,
-            };
+        match litter(i, &rule, x, litters, &mut meter) {
+            Err(refusal) => {
+                let used = meter.used;
+                let refused = Refused { refusal, used };
+                let litter = Some(number);
+                return Err(Named { refused, litter });
+            }
+            Ok(s) => {
+                let g = crate::totals::index(litters[3 * i + 2]);
+                let sum = crate::totals::accumulated(t, g, s);
+                t = sum;
+            }
         }
-        let g = crate::totals::index(litters[3 * i + 2]);
-        let s = crate::totals::accumulated(t, g, r);
-        t = s;
     }
-    let objective = ended(used, t);
-    Named {
-        objective,
-        litter: 0,
-    }
+    at_no_litter(ended(meter.used.0, t))
 }
 
 // The rule is computed once and passed on: the source computes it at each call, to the same bits.
@@ -107,24 +126,16 @@ pub fn named_objective(
     x: [f64; 4],
     litters: &[u32],
     limit: QuadratureEvaluations,
-) -> Named
-    ensures { (result ≡ named_objective_of rule x litters.now limit) × (litters.now ≡ litters.now) }
+) -> Result<Objective, Named>
+    ensures { result ≡ named_objective_of rule x litters.now limit }
 {
     if !crate::check::valid_point(x) {
-        let objective = refusal(Ending::InvalidInput, QuadratureEvaluations(0));
-        return Named {
-            objective,
-            litter: 0,
-        };
+        return Err(invalid());
     }
     if !litters::valid::valid_litters(litters) {
-        let objective = refusal(Ending::InvalidInput, QuadratureEvaluations(0));
-        return Named {
-            objective,
-            litter: 0,
-        };
+        return Err(invalid());
     }
-    summed(rule, x, litters, limit.0)
+    summed(rule, x, litters, limit)
 }
 
 pub fn limited_objective(
@@ -132,15 +143,18 @@ pub fn limited_objective(
     x: [f64; 4],
     litters: &[u32],
     limit: QuadratureEvaluations,
-) -> Objective
-    ensures { (result ≡ limited_objective_of rule x litters.now limit) × (litters.now ≡ litters.now) }
+) -> Result<Objective, Refused>
+    ensures { result ≡ limited_objective_of rule x litters.now limit }
 {
-    let n = named_objective(rule, x, litters, limit);
-    n.objective
+    match named_objective(rule, x, litters, limit) {
+        Ok(o) => Ok(o),
+        Err(n) => Err(n.refused),
+    }
 }
 
-pub fn probit_normal_binomial_objective(x: [f64; 4], litters: &[u32]) -> Objective
-    ensures { (result ≡ objective_of x litters.now) × (litters.now ≡ litters.now) }
+#[tactic(auto, unfolding(crate::specs::Objective::objective_of))]
+pub fn probit_normal_binomial_objective(x: [f64; 4], litters: &[u32]) -> Result<Objective, Refused>
+    ensures { result ≡ objective_of x litters.now }
 {
     let rule = legendre::legendre();
     limited_objective(rule, x, litters, QuadratureEvaluations(8388608))

@@ -1,19 +1,20 @@
 // The sums of the litters' shares: gradient by coordinate, Hessian by rows of the four coordinates.
 ghost use Rattle.std.specs.Prelude.{◌≡◌, ◌<◌};
-ghost use Rattle.objective.specs.Totals.{index_of, accumulated_of, finite_totals};
+ghost use Rattle.objective.specs.Totals.{index_of, with_share, finite_totals};
 
-use row::Row;
+use row::Share;
 use value::Totals;
 
 pub fn index(group: u32) -> usize
-    ensures { (result ≡ index_of group) × (result < 2) }
+    ensures place { result ≡ index_of group }
+    ensures in_range { result < 2 }
 {
     if group < 1 { 0 } else { 1 }
 }
 
-pub fn accumulated(t: Totals, i: usize, r: Row) -> Totals
+pub fn accumulated(t: Totals, i: usize, s: Share) -> Totals
     requires { i < 2 }
-    ensures { result ≡ accumulated_of t i r.nll r.gradient r.hessian r.refinement }
+    ensures { result ≡ with_share t i s }
 {
     let mut o = t;
     let j = i + 2;
@@ -21,17 +22,18 @@ pub fn accumulated(t: Totals, i: usize, r: Row) -> Totals
     let b = a + 2;
     let c = a + 8;
     let d = a + 10;
-    o.nll = o.nll + r.nll;
-    o.gradient[i] = o.gradient[i] + r.gradient[0];
-    o.gradient[j] = o.gradient[j] + r.gradient[1];
-    o.hessian[a] = o.hessian[a] + r.hessian[0];
-    o.hessian[b] = o.hessian[b] + r.hessian[1];
-    o.hessian[c] = o.hessian[c] + r.hessian[2];
-    o.hessian[d] = o.hessian[d] + r.hessian[3];
-    o.refinement = num::max(o.refinement, r.refinement);
+    o.nll = o.nll + s.nll;
+    o.gradient[i] = o.gradient[i] + s.gradient[0];
+    o.gradient[j] = o.gradient[j] + s.gradient[1];
+    o.hessian[a] = o.hessian[a] + s.hessian[0];
+    o.hessian[b] = o.hessian[b] + s.hessian[1];
+    o.hessian[c] = o.hessian[c] + s.hessian[2];
+    o.hessian[d] = o.hessian[d] + s.hessian[3];
+    o.refinement = num::max(o.refinement, s.refinement);
     o
 }
 
+#[tactic(auto, unfolding(crate::specs::Totals::finite_totals))]
 pub fn finite(t: Totals) -> bool
     ensures { result ≡ finite_totals t }
 {

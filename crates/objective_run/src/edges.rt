@@ -1,6 +1,5 @@
 // Where two rules meet: the two forms of the normal distribution, the number of litters, the limit.
 use normal::LogMills;
-use work::QuadratureEvaluations;
 
 const LOG_TWO_PI: f64 = 1.8378770664093453;
 
@@ -14,10 +13,8 @@ fn by_erfc(x: f64) -> LogMills {
 
 fn fraction(t: f64) -> f64 {
     let mut f = 0.0;
-    let mut k: u32 = 64;
-    while 0 < k {
+    for k in (1..65u32).rev() {
         f = k as f64 / (t + f);
-        k -= 1;
     }
     f
 }
@@ -45,8 +42,9 @@ pub fn normal_at_eight() {
 
 fn under(name: &[u8], limit: u64) {
     let rule = legendre::legendre();
-    let r = row::row_objective(0, 1, 2, rule, 0.0, 0.0, QuadratureEvaluations(limit));
-    crate::say::row(name, r);
+    let mut m = crate::say::meter(limit);
+    let r = row::row_objective(0, 1, 2, &rule, 0.0, 0.0, &mut m);
+    crate::say::answer(name, r, m);
 }
 
 // Litters of one pup, affected, in group 1.

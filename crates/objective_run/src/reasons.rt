@@ -1,22 +1,14 @@
 // Each reason of a Domain.
+use mode::Mode;
 use panel::Hump;
-use posterior::flanks::Flanks;
 use posterior::integrand::Posterior;
 use tail::Hill;
-use work::QuadratureEvaluations;
 
 fn row(name: &[u8], successes: u32, total: u32, mean: f64, variance: f64) {
     let rule = legendre::legendre();
-    let r = row::row_objective(
-        0,
-        successes,
-        total,
-        rule,
-        mean,
-        variance,
-        QuadratureEvaluations(8388608),
-    );
-    crate::say::row(name, r);
+    let mut m = crate::say::meter(8388608);
+    let r = row::row_objective(0, successes, total, &rule, mean, variance, &mut m);
+    crate::say::answer(name, r, m);
 }
 
 pub fn modes() {
@@ -35,9 +27,9 @@ pub fn sums() {
         right: 1.0,
         log: num::not_a_number(),
     };
-    let i = quadrature::integrated(usual(), rule, h);
-    let end = i.end;
-    crate::say::ended(b"4: log NaN", end, i.p.evaluations.0);
+    let mut m = crate::say::meter(8388608);
+    let i = quadrature::integrated(usual(), &rule, h, &mut m);
+    crate::say::answer(b"4: log NaN", i, m);
     // A valid request: rounding moves the sums of so large a litter by more than two rules may differ.
     crate::refusals::at(
         b"5: 500 of 1000, variance 9",
@@ -53,33 +45,30 @@ fn usual() -> Posterior {
         total: 2,
         mean: 0.0,
         sd: 1.0,
-        evaluations: QuadratureEvaluations(0),
-        limit: QuadratureEvaluations(8388608),
     }
-}
-
-fn flanks(name: &[u8], r: Flanks) {
-    let end = r.end;
-    crate::say::ended(name, end, r.p.evaluations.0);
 }
 
 pub fn tails() {
     // No bound is below zero.
     let h = Hill {
-        total: 2,
-        mean: 0.0,
-        sd: 1.0,
+        p: usual(),
         mode: 0.0,
         log: -2.0,
         delta: 1.0,
         goal: -1.0,
     };
-    flanks(b"3: goal -1", tail::bounded(usual(), h));
+    let mut m = crate::say::meter(8388608);
+    let r = h.bounded(&mut m);
+    crate::say::answer(b"3: goal -1", r, m);
     // Thirty doublings of so small a scale stay at the mode.
-    flanks(
-        b"3: curvature 1e60",
-        row::peak::limits(usual(), 0.0, -2.0, 1e60),
-    );
+    let narrow = Mode {
+        at: 0.0,
+        log: -2.0,
+        curvature: 1e60,
+    };
+    let mut m = crate::say::meter(8388608);
+    let r = row::peak::limits(usual(), narrow, &mut m);
+    crate::say::answer(b"3: curvature 1e60", r, m);
     // A bound that is no number is none.
     row(b"3: mean NaN", 1, 2, num::not_a_number(), 1.0);
 }

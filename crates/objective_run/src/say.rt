@@ -1,27 +1,39 @@
 // The lines.
-use objective::Objective;
-use row::Row;
-use work::Ending;
+use objective::{Objective, Refused};
+use work::{Meter, QuadratureEvaluations, Refusal};
 
-pub fn ended(name: &[u8], end: Ending, used: u64) {
+fn line(name: &[u8], number: u64, reason: u64, used: u64) {
     io::write_all(1, name);
     io::write_all(1, b" ");
-    io::print_decimal(1, work::number(end));
+    io::print_decimal(1, number);
     io::write_all(1, b" ");
-    io::print_decimal(1, work::reason(end));
+    io::print_decimal(1, reason);
     io::write_all(1, b" ");
     io::print_decimal(1, used);
     io::write_all(1, b"\n");
 }
 
-pub fn row(name: &[u8], r: Row) {
-    let end = r.end;
-    ended(name, end, r.used.0);
+// The whole limit, none of it used.
+pub fn meter(limit: u64) -> Meter {
+    Meter {
+        used: QuadratureEvaluations(0),
+        limit: QuadratureEvaluations(limit),
+    }
 }
 
-pub fn objective(name: &[u8], o: Objective) {
-    let end = o.end;
-    ended(name, end, o.used.0);
+// Of an answer only that there is one is shown.
+pub fn answer<T: Drop>(name: &[u8], r: Result<T, Refusal>, m: Meter) {
+    match r {
+        Ok(_) => line(name, 0, 0, m.used.0),
+        Err(e) => line(name, e.number(), e.reason(), m.used.0),
+    }
+}
+
+pub fn objective(name: &[u8], o: Result<Objective, Refused>) {
+    match o {
+        Ok(o) => line(name, 0, 0, o.used.0),
+        Err(r) => line(name, r.refusal.number(), r.refusal.reason(), r.used.0),
+    }
 }
 
 // Two numbers by their bits.

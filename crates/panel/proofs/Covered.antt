@@ -1,32 +1,20 @@
 -- Where the limit covers a panel's nodes, each is answered: the sums are those of the nodes in order, and the count is raised by all.
-use mathlib.Core.Path.{◌≡◌, sym, ◌∙◌}
-use mathlib.Core.Bool.{Bool, true, false}
-use mathlib.Core.List.{List}
-use Prim.Native.Nat.{ℕ, zero, suc, ◌+◌, ◌-◌, ◌≤◌}
-use native.Mathlib.Nat.{add-zero}
-use native.Mathlib.Omega.{arith}
-use lib.Dec.{ltb, leb}
-use lib.Ieee.{Float}
-use borrow.Author.Tests.{lt-ltb, leb-true}
-use mir.Syntax.{w64}
-use mir.Val.{Fits}
+use Rattle.std.specs.Prelude.{◌≡◌, true, List, ℕ, zero, suc, ◌+◌, ◌-◌, ◌≤◌, ltb, leb, Ok, Float}
+use Rattle.std.proofs.Common.{arith, add-zero, lt-ltb, leb-true, w64, Fits}
 use mir.Facts.{Fits-le}
-use Rattle.num.specs.Left.{left_none}
-use Rattle.work.specs.declared.Ending.TheVariants.{Answered}
+use Rattle.work.specs.declared.Meter.{Meter}
 use Rattle.work.specs.Ended.{done}
 use Rattle.work.specs.Work.{◌>>=◌, metered}
+use Rattle.work.specs.Answer.{counted, by, Did}
 use Rattle.legendre.specs.declared.Pair.{Pair}
 use Rattle.posterior.specs.declared.integrand.Posterior.{Posterior}
-use Rattle.posterior.specs.Integrand.{Eval, at, here, counted}
+use Rattle.posterior.specs.Integrand.{Eval, at, here}
 use Rattle.nodes.specs.Nodes.{nodes_from, sixteen_of}
-use Rattle.panel.specs.Panel.{nodes, panel_from, panel_of}
-
-pub none_left : (used limit : ℕ) → limit ≤ used → false ≡ leb 16 (limit - used)
-none_left used limit h = rw (left_none limit used h)
+use Rattle.panel.specs.Panel.{nodes}
 
 -- a count raised by no more than what is left does not wrap
-pub left_fits : (used limit k : ℕ) (b : Bool) → b ≡ leb 16 (limit - used) → b ≡ true → Fits w64 limit → k ≤ 16 → Fits w64 (used + k)
-left_fits used limit k b e h f l = Fits-le (omega (arith, leb-true 16 (limit - used) (sym e ∙ h))) f
+pub left_fits : (m : Meter) → leb 16 (m.limit.0 - m.used.0) ≡ true → Fits w64 m.limit.0 → Fits w64 (m.used.0 + 16)
+left_fits m h f = Fits-le (omega (arith, leb-true 16 (m.limit.0 - m.used.0) h)) f
 
 covered : (here : Float → Eval) (rule : List Pair) (top center width : Float) (l n i u : ℕ) (s : List Float) → u + n ≤ l → metered at l u (nodes here rule top center width n i s) ≡ record { ended = done (nodes_from (λ z. at (here z)) rule top center width n i s); used = u + n }
 unfolding metered nodes nodes_from ◌>>=◌
@@ -36,8 +24,8 @@ covered here rule top center width l (suc n) i u s h =
     let e : u + suc n ≡ u + 1 + n = omega arith in
     rw (b, e) (covered here rule top center width l n (i + 1) (u + 1) _ (omega arith))
 
-pub panel_covered : (p : Posterior) (rule : List Pair) (top center width : Float) (s t : List Float) → leb 16 (p.limit.0 - p.evaluations.0) ≡ true → t ≡ sixteen_of p rule top center width s → record { end = Answered; p = counted p (p.evaluations.0 + 16); sum = t } ≡ panel_of p rule top center width s
-unfolding panel_of panel_from sixteen_of
-panel_covered p rule top center width s t h e =
-    let l : p.evaluations.0 + 16 ≤ p.limit.0 = omega (arith, leb-true 16 (p.limit.0 - p.evaluations.0) h) in
-    rw (covered (here p) rule top center width p.limit.0 16 0 p.evaluations.0 s l, e)
+pub panel_covered : (p : Posterior) (rule : List Pair) (top center width : Float) (s t : List Float) (m : Meter) → leb 16 (m.limit.0 - m.used.0) ≡ true → t ≡ sixteen_of p rule top center width s → Did at (nodes (here p) rule top center width 16 0 s) m (Ok t) (counted m (m.used.0 + 16))
+unfolding by sixteen_of
+panel_covered p rule top center width s t m h e =
+    let l : m.used.0 + 16 ≤ m.limit.0 = omega (arith, leb-true 16 (m.limit.0 - m.used.0) h) in
+    rw (covered (here p) rule top center width m.limit.0 16 0 m.used.0 s l, e)

@@ -2,11 +2,13 @@
 #![tactic(auto)]
 
 ghost use Rattle.std.specs.Prelude.{◌≡◌, ◌-◌, leb};
-ghost use Rattle.panel.specs.Panel.{no_sums, nothing_of, panel_of, side_of, sides_of};
+ghost use Rattle.work.specs.Answer.{Did};
+ghost use Rattle.posterior.specs.Integrand.{at, here};
+ghost use Rattle.panel.specs.Panel.{no_sums, center_of, nodes, panels as panels_of, sides as sides_of};
 
 use legendre::Pair;
 use posterior::integrand::Posterior;
-use work::{Ending, QuadratureEvaluations};
+use work::{Meter, Refusal};
 
 // The interval of the integral, with the mode in it and the logarithm there.
 #[derive(Clone, Copy)]
@@ -17,165 +19,128 @@ pub struct Hump {
     pub log: f64,
 }
 
+// What is summed: a litter's posterior at a rule's nodes, scaled by the logarithm at the mode.
 #[derive(Clone, Copy)]
-pub struct Sums {
-    pub end: Ending,
-    pub p: Posterior,
-    pub sum: [f64; 6],
-}
-
-// A refusal, with no sums.
-fn nothing(end: Ending, p: Posterior) -> Sums
-    ensures { result ≡ nothing_of end p }
-{
-    Sums {
-        end,
-        p,
-        sum: [0.0; 6],
-    }
-}
-
-// The limit is tested before each node.
-fn one_by_one(
+struct Summand {
     p: Posterior,
     rule: [Pair; 16],
     top: f64,
-    center: f64,
-    width: f64,
-    sum: [f64; 6],
-) -> Sums
-    ensures { result ≡ panel_of p rule top center width sum }
-{
-    let mut q = p;
-    let mut s = sum;
-    for i in 0..16usize {
-        let n = rule[i];
-        let a = posterior::integrand::evaluate(q, center + 0.5 * width * n.x);
-        let end = a.end;
-        q = a.p;
-        if work::refused(end) {
-            return nothing(end, q);
-        }
-        let moments = a.v.moments;
-        let e = elementary::exp::exp(a.v.log - top);
-        let t = nodes::sum::added(s, 0.5 * width * n.w * e, moments);
-        s = t;
-    }
-    Sums {
-        end: Ending::Answered,
-        p: q,
-        sum: s,
-    }
 }
 
 // Whether the limit leaves sixteen evaluations.
 fn sixteen_left(used: u64, limit: u64) -> bool
     ensures { result ≡ leb 16 (limit - used) }
 {
-    if used < limit {
-        16 <= limit - used
-    } else {
-        false
-    }
+    16 <= limit.saturating_sub(used)
 }
 
-// The nodes side by side where the limit covers them all, and then it is tested once.
-fn panel(p: Posterior, rule: [Pair; 16], top: f64, center: f64, width: f64, sum: [f64; 6]) -> Sums
-    ensures { result ≡ panel_of p rule top center width sum }
+// Where the i-th panel of a side lies that starts at a.
+fn center(a: f64, width: f64, i: u32) -> f64
+    ensures { result ≡ center_of a width i }
 {
-    let used = p.evaluations.0;
-    let limit = p.limit.0;
-    if sixteen_left(used, limit) {
-        let s = nodes::sixteen(p, rule, top, center, width, sum);
-        let mut q = p;
-        let more = QuadratureEvaluations(used + 16);
-        q.evaluations = more;
-        return Sums {
-            end: Ending::Answered,
-            p: q,
-            sum: s,
-        };
-    }
-    one_by_one(p, rule, top, center, width, sum)
+    a + (i as f64 + 0.5) * width
 }
 
-fn side(
-    p: Posterior,
-    rule: [Pair; 16],
-    top: f64,
-    a: f64,
-    width: f64,
-    panels: u32,
-    sum: [f64; 6],
-) -> Sums
-    ensures { result ≡ side_of p rule top a width panels sum }
-{
-    let mut q = p;
-    let mut s = sum;
-    for i in 0..panels {
-        let r = panel(q, rule, top, a + (i as f64 + 0.5) * width, width, s);
-        let end = r.end;
-        q = r.p;
-        s = r.sum;
-        if work::refused(end) {
-            return nothing(end, q);
+impl Summand {
+    // The limit is tested before each node.
+    fn one_by_one(
+        &self,
+        center: f64,
+        width: f64,
+        sum: [f64; 6],
+        meter: &mut Meter,
+    ) -> Result<[f64; 6], Refusal>
+        ensures { Did at (nodes (here self.now.p) self.now.rule self.now.top center width 16 0 sum) meter.old result meter.new }
+    {
+        let mut s = sum;
+        for n in &self.rule {
+            let v = self.p.evaluate(center + 0.5 * width * n.x, meter)?;
+            let e = elementary::exp::exp(v.log - self.top);
+            // By a local: a call's array laid straight into what the loop carries gets no proof (tried).
+            let t = nodes::sum::added(s, 0.5 * width * n.w * e, v.moments);
+            s = t;
         }
+        Ok(s)
     }
-    Sums {
-        end: Ending::Answered,
-        p: q,
-        sum: s,
-    }
-}
 
-// A limit that ends within the first panel is met one by one, before the work that the stages of a side share.
-fn left_side(p: Posterior, rule: [Pair; 16], top: f64, a: f64, width: f64, panels: u32) -> Sums
-    ensures { result ≡ side_of p rule top a width panels no_sums }
-{
-    if 0 < panels {
-        if !sixteen_left(p.evaluations.0, p.limit.0) {
-            let r = one_by_one(
-                p,
-                rule,
-                top,
-                a + (0u32 as f64 + 0.5) * width,
-                width,
-                [0.0; 6],
-            );
-            let end = r.end;
-            let q = r.p;
-            if work::refused(end) {
-                return nothing(end, q);
+    // The nodes side by side where the limit covers them all, and then it is tested once.
+    fn panel(
+        &self,
+        center: f64,
+        width: f64,
+        sum: [f64; 6],
+        meter: &mut Meter,
+    ) -> Result<[f64; 6], Refusal>
+        ensures { Did at (nodes (here self.now.p) self.now.rule self.now.top center width 16 0 sum) meter.old result meter.new }
+    {
+        let limit = meter.limit.0;
+        if sixteen_left(meter.used.0, limit) {
+            meter.used.0 += 16;
+            return Ok(nodes::sixteen(self.p, self.rule, self.top, center, width, sum));
+        }
+        self.one_by_one(center, width, sum, meter)
+    }
+
+    // The panels of the side that starts at a, from the panel `first` on.
+    fn side(
+        &self,
+        a: f64,
+        width: f64,
+        first: u32,
+        panels: u32,
+        sum: [f64; 6],
+        meter: &mut Meter,
+    ) -> Result<[f64; 6], Refusal>
+        ensures { Did at (panels_of (here self.now.p) self.now.rule self.now.top a width (panels - first) first sum) meter.old result meter.new }
+    {
+        let mut s = sum;
+        for i in first..panels {
+            s = self.panel(center(a, width, i), width, s, meter)?;
+        }
+        Ok(s)
+    }
+
+    // A limit that ends within the first panel is met one by one, before the work that the stages of a side share.
+    fn left_side(
+        &self,
+        a: f64,
+        width: f64,
+        panels: u32,
+        meter: &mut Meter,
+    ) -> Result<[f64; 6], Refusal>
+        ensures { Did at (panels_of (here self.now.p) self.now.rule self.now.top a width panels 0 no_sums) meter.old result meter.new }
+    {
+        if 0 < panels {
+            if !sixteen_left(meter.used.0, meter.limit.0) {
+                let s = self.one_by_one(center(a, width, 0), width, [0.0; 6], meter)?;
+                return self.side(a, width, 1, panels, s, meter);
             }
         }
+        self.side(a, width, 0, panels, [0.0; 6], meter)
     }
-    side(p, rule, top, a, width, panels, [0.0; 6])
 }
 
-pub fn sides(p: Posterior, rule: [Pair; 16], h: Hump, panels: u32) -> Sums
-    ensures { result ≡ sides_of p rule h panels }
+pub fn sides(
+    p: Posterior,
+    rule: &[Pair; 16],
+    h: Hump,
+    panels: u32,
+    meter: &mut Meter,
+) -> Result<[f64; 6], Refusal>
+    ensures { Did at (sides_of (here p) rule.now h panels) meter.old result meter.new }
 {
-    let l = left_side(
+    let s = Summand {
         p,
-        rule,
-        h.log,
-        h.left,
-        (h.mode - h.left) / panels as f64,
-        panels,
-    );
-    let end = l.end;
-    let q = l.p;
-    if work::refused(end) {
-        return nothing(end, q);
-    }
-    let s = l.sum;
-    side(
-        q,
-        rule,
-        h.log,
+        rule: *rule,
+        top: h.log,
+    };
+    let left = s.left_side(h.left, (h.mode - h.left) / panels as f64, panels, meter)?;
+    s.side(
         h.mode,
         (h.right - h.mode) / panels as f64,
+        0,
         panels,
-        s,
+        left,
+        meter,
     )
 }

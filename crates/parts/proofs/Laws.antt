@@ -1,21 +1,21 @@
 -- The laws of the state that a host lends: what the test of its size leaves known, and each call's answer by the tests on its way.
-use mathlib.Core.Path.{◌≡◌, refl, sym, ap, ◌∙◌}
-use mathlib.Core.Bool.{Bool, true, false, not, ◌&&◌, cond, and-eq-true_iff}
+use mathlib.Core.Path.{◌≡◌, refl}
+use mathlib.Core.Bool.{Bool, true, false, not}
 use mathlib.Core.List.{List}
-use Prim.Native.Nat.{ℕ, ◌+◌, ◌≤◌, ◌<◌}
+use Prim.Native.Nat.{ℕ, ◌+◌, ◌<◌}
 use native.Mathlib.Omega.{arith}
-use borrow.Author.Tests.{leb-true, eq-eqb, ne_eqb}
-use lib.Dec.{leb}
-use lib.ListN.{length, take, get_or, set, replicate, length-replicate}
+use borrow.Author.Tests.{eq-eqb, ne_eqb}
+use lib.ListN.{length, take, get_or, set, replicate}
 use lib.Seq.{paste}
 use Rattle.num.specs.Choose.{then, else, by_not_false, by_not_true}
-use Rattle.read.specs.Long.{length_fill}
 use Rattle.store.specs.Stored.{stored}
+use Rattle.std.specs.Prelude.{Result}
+use Rattle.template.specs.declared.read.Form.{Form}
 use Rattle.read.specs.declared.Asking.{Asking}
 use Rattle.read.specs.Request.{read_request}
 use Rattle.read.specs.Rows.{fill_request, asking_of}
 use Rattle.parts.specs.Kept.{room_for_of}
-use Rattle.parts.specs.Lent.{lent, told, is_sized_of, finish_room_of, request_numbers_of, part_in_of, told_of, finish_in_of}
+use Rattle.parts.specs.Lent.{lent, told, is_sized_of, finish_room_of, request_numbers_of, status_of, part_in_of, told_of, finish_in_of}
 use Rattle.parts.specs.JoinedLent.{sizes}
 
 -- ---- sizes
@@ -29,42 +29,6 @@ module _ (b c : ℕ) (t : Bool) (e : t ≡ is_sized_of b c) (h : not t ≡ false
 
   pub part_second : 1 < c
   part_second = omega (arith, (sizes b c (by_not_true t _ e h)).1)
-
-module _ (b c q l : ℕ) (t : Bool) (e : t ≡ finish_room_of b c q l) (h : not t ≡ false) where
-  all : (is_sized_of b c ≡ true) × ((leb 18 q && leb 384 l) ≡ true)
-  unfolding finish_room_of
-  all = (and-eq-true_iff (is_sized_of b c) (leb 18 q && leb 384 l)).0 (by_not_true t _ e h)
-
-  pub finish_bytes : b ≡ 8193
-  finish_bytes = (sizes b c all.0).0
-
-  pub finish_first : 0 < c
-  finish_first = omega (arith, (sizes b c all.0).1)
-
-  pub finish_second : 1 < c
-  finish_second = omega (arith, (sizes b c all.0).1)
-
-  pub finish_request : 18 ≤ q
-  finish_request = leb-true 18 q ((and-eq-true_iff (leb 18 q) (leb 384 l)).0 all.1).0
-
-  pub finish_litters : 384 ≤ l
-  finish_litters = leb-true 384 l ((and-eq-true_iff (leb 18 q) (leb 384 l)).0 all.1).1
-
--- ---- what is told has room: the litters' buffer keeps its length, and the request has eighteen numbers
-
-pub rows_long : (rows text : List ℕ) → rows ≡ fill_request (replicate 384 0) text → 384 ≡ length rows
-rows_long rows text e = sym (ap length e ∙ length_fill (replicate 384 0) text ∙ length-replicate {A = ℕ} 384 0)
-
-pub numbers_long : (numbers : List ℕ) (a : Asking) → numbers ≡ request_numbers_of a → 18 ≡ length numbers
-unfolding request_numbers_of
-numbers_long numbers a e = sym (ap length e)
-
-module _ (b c q l : ℕ) (t : Bool) (e : t ≡ finish_room_of b c q l) (h : not t ≡ false) where
-  pub numbers_fit : (numbers : List ℕ) (a : Asking) → numbers ≡ request_numbers_of a → length numbers ≤ q
-  numbers_fit numbers a i = omega (arith, numbers_long numbers a i, finish_request b c q l t e h)
-
-  pub rows_fit : (rows text : List ℕ) → rows ≡ fill_request (replicate 384 0) text → length rows ≤ l
-  rows_fit rows text i = omega (arith, rows_long rows text i, finish_litters b c q l t e h)
 
 -- ---- a part
 
@@ -91,8 +55,8 @@ module _ (b c q l : List ℕ) (t : Bool) (e : t ≡ finish_room_of (length b) (l
   finish_wrong h = else _ _ _ _ (by_not_false t _ e h) refl
 
   pub finish_told :
-      (a : Asking) (rows numbers q' l' : List ℕ) (r : ℕ) → not t ≡ false → a ≡ asking_of 0 (read_request (take (get_or c 0 0) b)) →
+      (a : Result Asking Form) (rows numbers q' l' : List ℕ) (r : ℕ) → not t ≡ false → a ≡ asking_of 0 (read_request (take (get_or c 0 0) b)) →
       rows ≡ fill_request (replicate 384 0) (take (get_or c 0 0) b) → numbers ≡ request_numbers_of a → q' ≡ stored q numbers → l' ≡ stored l rows →
-      r ≡ cond a.fits 0 4 → told r (set c 1 1) q' l' ≡ finish_in_of b c q l
+      r ≡ status_of a → told r (set c 1 1) q' l' ≡ finish_in_of b c q l
   unfolding finish_in_of told_of
   finish_told a rows numbers q' l' r h ea er en eq el ev = then _ _ _ _ (by_not_true t _ e h) (rw (ev, eq, el, en, er, ea) refl)

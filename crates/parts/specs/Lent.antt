@@ -1,7 +1,8 @@
 -- The reader as a state that a host lends: 8,193 bytes, and two counts, the bytes kept and whether the text is finished. What a call makes of them.
-use Rattle.std.specs.Prelude.{Bool, cond, ◌&&◌, List, [], ◌∷◌, ◌++◌, ℕ, ◌+◌, eqb, leb, length, take, get_or, set, replicate}
+use Rattle.std.specs.Prelude.{Bool, cond, ◌&&◌, List, [], ◌∷◌, ◌++◌, ℕ, ◌+◌, eqb, leb, length, take, get_or, set, replicate, Result, Ok, Err}
 use Rattle.std.proofs.Math.Seq.{paste}
 use Rattle.store.specs.Stored.{stored}
+use Rattle.template.specs.declared.read.Form.{Form}
 use Rattle.read.specs.declared.Asking.{Asking}
 use Rattle.read.specs.Request.{read_request}
 use Rattle.read.specs.Rows.{fill_request, asking_of}
@@ -46,13 +47,19 @@ finish_room_of buffer counts request litters = is_sized_of buffer counts && (leb
 abbrev four : List ℕ → ℕ → List ℕ
 four l i = get_or l i 0 ∷ get_or l (i + 1) 0 ∷ get_or l (i + 2) 0 ∷ get_or l (i + 3) 0 ∷ []
 
--- the line, the number of litters, the head's sixteen values
-unfoldable pub request_numbers_of : Asking → List ℕ
-request_numbers_of a = a.line ∷ a.count ∷ (four a.values 0 ++ (four a.values 4 ++ (four a.values 8 ++ four a.values 12)))
+-- the line, the number of litters, the head's sixteen values: zeros where a text has none
+unfoldable pub request_numbers_of : Result Asking Form → List ℕ
+request_numbers_of (Ok a) = 0 ∷ a.count ∷ (four a.values 0 ++ (four a.values 4 ++ (four a.values 8 ++ four a.values 12)))
+request_numbers_of (Err e) = e.line ∷ replicate 17 0
 
--- what a text tells: 0 with its request, 4 for Form
-abbrev pub tells : Asking → List ℕ → List ℕ → List ℕ → List ℕ → Told
-tells a rows c q l = told (cond a.fits 0 4) (set c 1 1) (stored q (request_numbers_of a)) (stored l rows)
+-- 0 with a request, 4 for Form
+abbrev pub status_of : Result Asking Form → ℕ
+status_of (Ok a) = 0
+status_of (Err e) = 4
+
+-- what a text tells
+abbrev pub tells : Result Asking Form → List ℕ → List ℕ → List ℕ → List ℕ → Told
+tells a rows c q l = told (status_of a) (set c 1 1) (stored q (request_numbers_of a)) (stored l rows)
 
 unfoldable pub told_of : List ℕ → List ℕ → List ℕ → List ℕ → Told
 told_of text c q l = tells (asking_of 0 (read_request text)) (fill_request (replicate 384 0) text) c q l

@@ -1,5 +1,5 @@
 pub mod Kept
-pub mod ByValue
+pub mod Reader
 pub mod Lent
 pub mod Front
 pub mod Joined

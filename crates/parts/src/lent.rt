@@ -1,14 +1,17 @@
 // The same for a host that lends its state: a buffer of 8,193 bytes and two counts, how many bytes are kept and whether the text is
 // finished. Zeros to begin. Each call answers 1 for a state of another size, or for a short buffer, and then nothing is written.
-ghost use Rattle.std.specs.Prelude.{◌≡◌, cond};
+// The answers are the numbers that the C interface gives.
+ghost use Rattle.std.specs.Prelude.{◌≡◌, ◌≤◌, IsTrue};
 ghost use Rattle.parts.specs.Lent.{lent, told, is_sized_of, finish_room_of, request_numbers_of, part_in_of, finish_in_of};
 
 use read::Asking;
+use template::read::Form;
 
+#[tactic(auto, unfolding(crate::specs::Lent::is_sized_of))]
 pub fn is_sized(buffer: usize, counts: usize) -> bool
     ensures { result ≡ is_sized_of buffer counts }
 {
-    num::both(buffer == 8193, counts == 2)
+    buffer == 8193 && counts == 2
 }
 
 // Answers 0; 4 after finishing, for Form with line 0, and then nothing is written.
@@ -27,29 +30,48 @@ pub fn part_in(buffer: &mut [u8], counts: &mut [u64], bytes: &[u8]) -> u64
     0
 }
 
+#[tactic(auto, unfolding(crate::specs::Lent::finish_room_of, crate::specs::Lent::is_sized_of))]
 fn finish_room(buffer: usize, counts: usize, request: usize, litters: usize) -> bool
-    ensures { result ≡ finish_room_of buffer counts request litters }
+    ensures value { result ≡ finish_room_of buffer counts request litters }
+    ensures bytes { IsTrue result → buffer ≡ 8193 }
+    ensures counts { IsTrue result → counts ≡ 2 }
+    ensures request { IsTrue result → 18 ≤ request }
+    ensures litters { IsTrue result → 384 ≤ litters }
 {
-    num::both(
-        is_sized(buffer, counts),
-        num::both(18 <= request, 384 <= litters),
-    )
+    is_sized(buffer, counts) && 18 <= request && 384 <= litters
 }
 
-fn request_numbers(a: Asking) -> [u64; 18]
+// The line, the number of litters, the head's sixteen values: zeros where the text has none.
+#[tactic(auto, unfolding(crate::specs::Lent::request_numbers_of))]
+fn request_numbers(a: Result<Asking, Form>) -> [u64; 18]
     ensures { result ≡ request_numbers_of a }
 {
-    let v = a.values;
-    [
-        a.line, a.count, v[0], v[1], v[2], v[3], v[4], v[5], v[6], v[7], v[8], v[9], v[10], v[11],
-        v[12], v[13], v[14], v[15],
-    ]
-}
-
-fn ending(fits: bool) -> u64
-    ensures { result ≡ cond fits 0 4 }
-{
-    if fits { 0 } else { 4 }
+    match a {
+        Ok(asking) => {
+            let v = asking.values;
+            [
+                0,
+                asking.count,
+                v[0],
+                v[1],
+                v[2],
+                v[3],
+                v[4],
+                v[5],
+                v[6],
+                v[7],
+                v[8],
+                v[9],
+                v[10],
+                v[11],
+                v[12],
+                v[13],
+                v[14],
+                v[15],
+            ]
+        }
+        Err(form) => [form.line, 0, 0, 0, 0, 0, 0, 0, 0, 0, 0, 0, 0, 0, 0, 0, 0, 0],
+    }
 }
 
 // Answers 0 with the request, 4 for Form with its line.
@@ -62,9 +84,11 @@ pub fn finish_in(buffer: &[u8], counts: &mut [u64], request: &mut [u64], litters
     let n = counts[0] as usize;
     let mut rows = [0u32; 384];
     let a = crate::kept::request(buffer, n, &mut rows);
-    let numbers = request_numbers(a);
     counts[1] = 1;
-    store::counts(&numbers, request);
-    store::litters(&rows, litters);
-    ending(a.fits)
+    store::put(&request_numbers(a), request);
+    store::put(&rows, litters);
+    match a {
+        Ok(_) => 0,
+        Err(_) => 4,
+    }
 }

@@ -155,7 +155,7 @@ still_among next s = rw zero_is
 
 -- ---- so each shows the other
 abbrev pub plan_of : Course → Plan
-plan_of p = record { lo = placed p.low; hi = placed p.high; tolerance = p.tolerance; most = record { 0 = p.most }; turns = record { 0 = p.turns } }
+plan_of p = record { region = record { lo = placed p.low; hi = placed p.high }; tolerance = p.tolerance; most = record { 0 = p.most }; turns = record { 0 = p.turns } }
 
 pub alike : (p : Course) → Alike (plane_of p) (problem_of (plan_of p)) placed widened_of Good
 alike p =

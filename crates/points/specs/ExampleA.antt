@@ -1,5 +1,5 @@
 -- Example A (docs/FORMAT.md): its whole answer, as antt computes it from the fit's definition; and its refusals.
-use Rattle.std.specs.Prelude.{◌≡◌, refl, true, false, List, [], ◌∷◌, ◌++◌, ℕ, replicate, Float}
+use Rattle.std.specs.Prelude.{◌≡◌, refl, true, false, List, [], ◌∷◌, ◌++◌, ℕ, replicate, Float, Ok, Err}
 use Rattle.std.specs.Int.Count.{count_leading_zeros}
 use Rattle.std.specs.Float.Ieee.{add, sub, mul, div, neg, lt, le, eq, ne, of_bits, of_int, to_bits}
 use Rattle.num.specs.Every.{every_from}
@@ -16,7 +16,7 @@ use Rattle.elementary.specs.Log.{log_of, log_small, log_parts}
 use Rattle.elementary.specs.Erfc.{erfc_of, erfc_pos_of, erfc_tail}
 use Rattle.elementary.specs.Lgamma.{lgamma_of, lgamma_below_one, lgamma_by_product, product_of, product_from}
 use Rattle.factorial.specs.Factorial.{log_factorial_of}
-use Rattle.work.specs.declared.Ending.TheVariants.{Answered, InvalidInput, WorkBudget}
+use Rattle.work.specs.declared.Refusal.TheVariants.{InvalidInput, WorkBudget}
 use Rattle.work.specs.Work.{◌>>=◌, metered}
 use Rattle.normal.specs.Normal.{normal_centre, normal_of}
 use Rattle.normal.specs.Conditional.{combined_of, conditional_of}
@@ -63,7 +63,6 @@ four_litters = 1 ∷ 2 ∷ 0 ∷ 1 ∷ 2 ∷ 0 ∷ 1 ∷ 2 ∷ 1 ∷ 1 ∷ 2 ∷
 abbrev pub answer_a : Fit
 answer_a =
     record {
-      end = Answered;
       status = Converged;
       means = both (bits 0);
       sds = both (bits 0);
@@ -81,6 +80,6 @@ answer_a =
 
 -- four evaluations are enough; three give WorkBudget with count 3; no iterations are InvalidInput
 pub example_a_is :
-    (fit_of (example_a 10 4) four_litters ≡ answer_a) × (fit_of (example_a 10 3) four_litters ≡ refused_of WorkBudget 3) × (fit_of (example_a 0 4) four_litters ≡ refused_of InvalidInput 0)
-unfolding fit_of limited_fit fit sds_of active_of project_of norm_of admitted_of two_each_of of_group_of sum_from valid_controls_of valid_sds_of valid_means_of valid_sd_of valid_mean_of through descend objective rows finite_totals all_finite_of every_from point.valid_point_of point.valid_variance_of point.valid_mean_of valid_litters_of each_valid_of valid_litter_of share coefficient_of log_factorial_of integrand.alone_of integrand.at_of integrand.integrand_of conditional_of combined_of normal_of normal_centre ◌>>=◌ metered lgamma_of lgamma_by_product lgamma_below_one product_of product_from erfc_of erfc_pos_of erfc_tail erfc_row_of erfc_rows log_of log_parts log_small log_row_of log_rows exp_of exp_low exp_below exp_above exp_finish exp_far exp_row_of exp_rows sqrt_of abs_of is_finite_of max_of min_of clamp_of powi_of powi_from count_leading_zeros to_bits add sub mul div neg lt le eq ne of_bits of_int
+    (fit_of (example_a 10 4) four_litters ≡ Ok answer_a) × (fit_of (example_a 10 3) four_litters ≡ Err (refused_of WorkBudget 3)) × (fit_of (example_a 0 4) four_litters ≡ Err (refused_of InvalidInput 0))
+unfolding fit_of limited_fit fit sds_of active_of project_of norm_of admitted_of two_each_of of_group_of sum_from valid_controls_of valid_sds_of valid_means_of valid_sd_of valid_mean_of through descend objective rows finite_totals all_finite_of every_from point.valid_point_of point.valid_variance_of point.valid_mean_of valid_litters_of each_valid_of valid_litter_of share coefficient_of log_factorial_of integrand.alone_of integrand.integrand_of conditional_of combined_of normal_of normal_centre ◌>>=◌ metered lgamma_of lgamma_by_product lgamma_below_one product_of product_from erfc_of erfc_pos_of erfc_tail erfc_row_of erfc_rows log_of log_parts log_small log_row_of log_rows exp_of exp_low exp_below exp_above exp_finish exp_far exp_row_of exp_rows sqrt_of abs_of is_finite_of max_of min_of clamp_of powi_of powi_from count_leading_zeros to_bits add sub mul div neg lt le eq ne of_bits of_int
 example_a_is = (refl, refl, refl)

@@ -1,14 +1,11 @@
 -- Evaluations of the integrand. The definitions know of no count and no limit; the code's answers are they, metered.
-use Rattle.std.specs.Prelude.{ℕ, replicate, Float}
-use Rattle.num.specs.F64.{◌⊕◌, ◌⊖◌, ◌⊗◌, zero·, half·, one·}
-use Rattle.work.specs.declared.Ending.{Ending}
-use Rattle.work.specs.Work.{Work, eval, Metered, metered, told}
+use Rattle.std.specs.Prelude.{ℕ, Float}
+use Rattle.num.specs.F64.{◌⊕◌, ◌⊖◌, ◌⊗◌, half·, one·}
 use Rattle.normal.specs.declared.moments.ConditionalLog.{ConditionalLog}
 use Rattle.normal.specs.Normal.{log_two_pi}
 use Rattle.normal.specs.Conditional.{conditional_of}
 use Rattle.posterior.specs.declared.integrand.Posterior.{Posterior}
 use Rattle.posterior.specs.declared.integrand.Point.{Point}
-use Rattle.posterior.specs.declared.integrand.At.{At}
 
 -- An evaluation: of which litter, by its position and its numbers, and where. `inside` is the integrand at the coordinate z;
 -- `alone` is the conditional at the mean, which is all there is at variance 0.
@@ -38,24 +35,6 @@ abbrev pub at : Eval → Point
 at (inside litter successes total mean sd z) = integrand_of successes total mean sd z
 at (alone litter successes total mean) = alone_of successes total mean
 
--- ---- the code's answers
-
+-- where the posterior is evaluated, at the coordinate z
 abbrev pub here : Posterior → Float → Eval
 here p z = inside p.litter p.successes p.total p.mean p.sd z
-
--- p with n evaluations behind it
-abbrev pub counted : Posterior → ℕ → Posterior
-counted p n = record { litter = p.litter; successes = p.successes; total = p.total; mean = p.mean; sd = p.sd; evaluations = record { 0 = n }; limit = p.limit }
-
--- what w comes to, from p's count on
-abbrev pub from : {A : Type 0} → Posterior → Work Eval Point A → Metered A
-from p w = metered at p.limit.0 p.evaluations.0 w
-
-abbrev pub to_at : Posterior → Ending → ℕ → Point → At
-to_at p e n v = record { end = e; p = counted p n; v = v }
-
-abbrev pub no_point : Point
-no_point = record { log = zero·; slope = zero·; curvature = zero·; moments = replicate 6 zero· }
-
-unfoldable pub at_of : Posterior → Float → At
-at_of p z = told (to_at p) no_point (from p (eval (here p z)))

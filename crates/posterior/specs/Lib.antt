@@ -1,5 +1,3 @@
 pub mod Side
 pub mod Integrand
-pub mod Lent
-pub mod Number
-pub mod Flanks
+pub mod Steps

@@ -1,12 +1,14 @@
 // Evaluations of the integrand, counted against a limit that is tested before each.
 ghost use Rattle.std.specs.Prelude.{◌≡◌};
-ghost use Rattle.posterior.specs.Integrand.{weighed_of, integrand_of, at_of};
+ghost use Rattle.work.specs.Work.{eval};
+ghost use Rattle.work.specs.Answer.{Did};
+ghost use Rattle.posterior.specs.Integrand.{weighed_of, integrand_of, at, here};
 
-use work::{Ending, QuadratureEvaluations};
+use work::{Meter, Refusal};
 
 const LOG_TWO_PI: f64 = 1.8378770664093453;
 
-// A litter, by its position and its numbers; the mean and spread it is taken at; the evaluations made and the most that may be made.
+// A litter, by its position and its numbers, and the mean and spread it is taken at.
 #[derive(Clone, Copy)]
 pub struct Posterior {
     pub litter: u64,
@@ -14,8 +16,6 @@ pub struct Posterior {
     pub total: u32,
     pub mean: f64,
     pub sd: f64,
-    pub evaluations: QuadratureEvaluations,
-    pub limit: QuadratureEvaluations,
 }
 
 // The logarithm of the integrand, its slope and its curvature (the second derivative with its sign turned), and the moments.
@@ -25,13 +25,6 @@ pub struct Point {
     pub slope: f64,
     pub curvature: f64,
     pub moments: [f64; 6],
-}
-
-#[derive(Clone, Copy)]
-pub struct At {
-    pub end: Ending,
-    pub p: Posterior,
-    pub v: Point,
 }
 
 fn weighed(sd: f64, z: f64, c: normal::ConditionalLog) -> Point
@@ -53,32 +46,11 @@ pub fn integrand(successes: u32, total: u32, mean: f64, sd: f64, z: f64) -> Poin
     weighed(sd, z, c)
 }
 
-#[tactic(auto, using(crate::proofs::IntegrandLaws::at_counts, crate::proofs::IntegrandLaws::at_short))]
-pub fn evaluate(p: Posterior, z: f64) -> At
-    ensures { result ≡ at_of p z }
-{
-    let used = p.evaluations.0;
-    let limit = p.limit.0;
-    if used < limit {
-        let v = integrand(p.successes, p.total, p.mean, p.sd, z);
-        let mut q = p;
-        let more = QuadratureEvaluations(used + 1);
-        q.evaluations = more;
-        At {
-            end: Ending::Answered,
-            p: q,
-            v,
-        }
-    } else {
-        At {
-            end: Ending::WorkBudget,
-            p,
-            v: Point {
-                log: 0.0,
-                slope: 0.0,
-                curvature: 0.0,
-                moments: [0.0; 6],
-            },
-        }
+impl Posterior {
+    pub fn evaluate(self, z: f64, meter: &mut Meter) -> Result<Point, Refusal>
+        ensures { Did at (eval (here self z)) meter.old result meter.new }
+    {
+        meter.count()?;
+        Ok(integrand(self.successes, self.total, self.mean, self.sd, z))
     }
 }

@@ -1,8 +1,5 @@
-// One litter's posterior over its own effect: the counted integrand, the two sides of its mode, what a search answers, and a posterior that is lent.
+// One litter's posterior over its own effect: the counted integrand, and the two sides of its mode.
 #![tactic(auto)]
 
-pub mod flanks;
 pub mod integrand;
-pub mod lent;
-pub mod number;
 pub mod side;

@@ -8,51 +8,60 @@ pub enum Side {
     Right,
 }
 
-// Where the bracket of a side starts.
-pub fn first(s: Side) -> f64
-    ensures { result ≡ first_of s }
-{
-    match s {
-        Side::Left => -1.0,
-        Side::Right => 1.0,
-    }
+// A place on either side of the mode.
+#[derive(Clone, Copy)]
+pub struct Ends {
+    pub left: f64,
+    pub right: f64,
 }
 
-// Whether the density still rises toward the mode where its slope is d.
-pub fn rises(s: Side, d: f64) -> bool
-    ensures { result ≡ rises_of s d }
-{
-    match s {
-        Side::Left => d > 0.0,
-        Side::Right => d < 0.0,
+impl Side {
+    // Where the bracket of a side starts.
+    pub fn first(self) -> f64
+        ensures { result ≡ first_of self }
+    {
+        match self {
+            Side::Left => -1.0,
+            Side::Right => 1.0,
+        }
     }
-}
 
-// The slope toward the mode.
-pub fn steep(s: Side, d: f64) -> f64
-    ensures { result ≡ steep_of s d }
-{
-    match s {
-        Side::Left => d,
-        Side::Right => -d,
+    // Whether the density still rises toward the mode where its slope is d.
+    pub fn rises(self, d: f64) -> bool
+        ensures { result ≡ rises_of self d }
+    {
+        match self {
+            Side::Left => d > 0.0,
+            Side::Right => d < 0.0,
+        }
     }
-}
 
-pub fn outward(s: Side, mode: f64, step: f64) -> f64
-    ensures { result ≡ outward_of s mode step }
-{
-    match s {
-        Side::Left => mode - step,
-        Side::Right => mode + step,
+    // The slope toward the mode.
+    pub fn steep(self, d: f64) -> f64
+        ensures { result ≡ steep_of self d }
+    {
+        match self {
+            Side::Left => d,
+            Side::Right => -d,
+        }
     }
-}
 
-// Whether a side's end does not hold: the slope there is zero or away from the mode.
-pub fn flat(s: Side, d: f64) -> bool
-    ensures { result ≡ flat_of s d }
-{
-    match s {
-        Side::Left => d <= 0.0,
-        Side::Right => 0.0 <= d,
+    pub fn outward(self, mode: f64, step: f64) -> f64
+        ensures { result ≡ outward_of self mode step }
+    {
+        match self {
+            Side::Left => mode - step,
+            Side::Right => mode + step,
+        }
+    }
+
+    // Whether a side's end does not hold: the slope there is zero or away from the mode.
+    pub fn flat(self, d: f64) -> bool
+        ensures { result ≡ flat_of self d }
+    {
+        match self {
+            Side::Left => d <= 0.0,
+            Side::Right => 0.0 <= d,
+        }
     }
 }

@@ -1,32 +1,24 @@
 -- The laws that the proofs of an answer's text go by: l is the buffer before, l' after.
 use mathlib.Core.Path.{◌≡◌, refl, sym, subst, ◌∙◌}
-use mathlib.Core.Bool.{Bool, true, false, not, ◌||◌, beq}
+use mathlib.Core.Bool.{Bool, true, false, beq}
 use mathlib.Core.List.{List, ◌++◌}
 use Prim.Native.Nat.{ℕ, ◌+◌, ◌*◌, ◌≤◌}
 use native.Mathlib.Nat.{add-zero, zero-add}
 use native.Mathlib.Omega.{arith}
 use borrow.Author.Tests.{eq-eqb}
 use lib.Dec.{T}
-use lib.ListN.{length, get_or, length-append}
-use lib.Ieee.{Float, nan, inf, fin, eq, is_nan, to_bits, level, up, down}
+use lib.ListN.{length, length-append}
+use lib.Ieee.{Float, nan, inf, fin, eq, to_bits, level, up, down}
 use Rattle.num.specs.F64.{bits_of}
-use Rattle.descent.specs.declared.Status.{Status}
-use Rattle.work.specs.Ended.{is_refused, number_of, reason_of}
 use Rattle.fit.specs.declared.report.Fit.{Fit}
 use Rattle.template.specs.Template.{ascii, render}
 use Rattle.render.specs.Width.{length_render}
 use Rattle.render.specs.Written.{written}
 use Rattle.render.specs.WrittenLaws.{written_append}
-use Rattle.print.specs.Answer.{refusal_text, status_text, report, report_values, mark, marks_text, active_text, report_text, fit_text}
+use Rattle.print.specs.Answer.{status_text, report, report_values, mark, active_text, any_of, marks_of, active_of, report_text}
 use Rattle.print.specs.Room.{report_width}
 
--- ---- a number equals itself, a NaN does not
-pub equal_number : (x : Float) → eq x x ≡ true → T (not (is_nan x))
-unfolding eq is_nan
-equal_number nan h = absurd (subst T (sym h) tt)
-equal_number (inf s) h = tt
-equal_number (fin s m e) h = tt
-
+-- ---- a number equals itself, so what does not is a NaN
 same_sign : (s : Bool) → beq s s ≡ true
 same_sign true = refl
 same_sign false = refl
@@ -42,9 +34,6 @@ nan_bits (fin s m e) h = absurd (subst T (sym (same_level s (m * up e * down e))
 
 pub by_length : (bs ds : List ℕ) (at r : ℕ) → r ≡ at + length ds → ds ≡ bs → r ≡ at + length bs
 by_length bs ds at r p e = rw (← e) p
-
-pub by_status : (ds : List ℕ) (s t : Status) → s ≡ t → ds ≡ status_text t → ds ≡ status_text s
-by_status ds s t h e = rw h e
 
 -- ---- a mark that is not set
 module _ (on : Bool) (s : List ℕ) (h : on ≡ false) where
@@ -67,38 +56,29 @@ pub numbers_most : (vs : List ℕ) (at r : ℕ) → r ≡ at + length (render re
 numbers_most vs at r p = let h = length_render report vs in omega (arith, h, report_width)
 
 -- ---- the marks' line: t is the test that one is set
-module _ (a b c d t : Bool) (e : t ≡ (a || (b || (c || d)))) where
-  some : t ≡ true → active_text a b c d ≡ marks_text a b c d ++ ascii "\n"
+module _ (on : List Bool) (t : Bool) (e : t ≡ any_of on) where
+  some : t ≡ true → active_of on ≡ marks_of on ++ ascii "\n"
   unfolding active_text
   some h = rw (← e, h)
 
-  pub none : t ≡ false → ascii " none\n" ≡ active_text a b c d
+  pub none : t ≡ false → ascii " none\n" ≡ active_of on
   unfolding active_text
   none h = rw (← e, h)
 
-  pub some_length : (at r₁ r₂ : ℕ) → t ≡ true → r₁ ≡ at + length (marks_text a b c d) → r₂ ≡ r₁ + 1 → r₂ ≡ at + length (active_text a b c d)
-  some_length at r₁ r₂ h p q = rw (some h) (then_length (marks_text a b c d) (ascii "\n") at r₁ r₂ p q)
+  pub some_length : (at r₁ r₂ : ℕ) → t ≡ true → r₁ ≡ at + length (marks_of on) → r₂ ≡ r₁ + 1 → r₂ ≡ at + length (active_of on)
+  some_length at r₁ r₂ h p q = rw (some h) (then_length (marks_of on) (ascii "\n") at r₁ r₂ p q)
 
-  pub some_text : (l l₁ l₂ : List ℕ) (at r₁ : ℕ) → t ≡ true → l₁ ≡ written l at (marks_text a b c d) → r₁ ≡ at + length (marks_text a b c d) → l₂ ≡ written l₁ r₁ (ascii "\n") → l₂ ≡ written l at (active_text a b c d)
-  some_text l l₁ l₂ at r₁ h p q i = rw (some h) (then_text (marks_text a b c d) (ascii "\n") l l₁ l₂ at r₁ p q i)
+  pub some_text : (l l₁ l₂ : List ℕ) (at r₁ : ℕ) → t ≡ true → l₁ ≡ written l at (marks_of on) → r₁ ≡ at + length (marks_of on) → l₂ ≡ written l₁ r₁ (ascii "\n") → l₂ ≡ written l at (active_of on)
+  some_text l l₁ l₂ at r₁ h p q i = rw (some h) (then_text (marks_of on) (ascii "\n") l l₁ l₂ at r₁ p q i)
 
--- ---- the report, and the whole answer
-module _ (f : Fit) (vs : List ℕ) (r₁ r₂ : ℕ) (v : vs ≡ report_values f) (p : r₁ ≡ 0 + length (status_text f.status)) (q : r₂ ≡ r₁ + length (render report vs)) where
-  whole : report_text f ≡ status_text f.status ++ (render report vs ++ active_text (get_or f.active 0 false) (get_or f.active 1 false) (get_or f.active 2 false) (get_or f.active 3 false))
+-- ---- the report
+module _ (f : Fit) (ws vs : List ℕ) (r₁ r₂ : ℕ) (u : ws ≡ status_text f.status) (v : vs ≡ report_values f) (p : r₁ ≡ 0 + length ws) (q : r₂ ≡ r₁ + length (render report vs)) where
+  whole : report_text f ≡ ws ++ (render report vs ++ active_of f.active)
   unfolding report_text
-  whole = rw v
+  whole = rw (u, v)
 
-  pub report_length : (r₃ : ℕ) → r₃ ≡ r₂ + length (active_text (get_or f.active 0 false) (get_or f.active 1 false) (get_or f.active 2 false) (get_or f.active 3 false)) → r₃ ≡ length (report_text f)
+  pub report_length : (r₃ : ℕ) → r₃ ≡ r₂ + length (active_of f.active) → r₃ ≡ length (report_text f)
   report_length r₃ i = rw (whole, ← zero-add (length _)) (search (then_length, p, q, i))
 
-  pub report_text_lem : (l l₁ l₂ l₃ : List ℕ) → l₁ ≡ written l 0 (status_text f.status) → l₂ ≡ written l₁ r₁ (render report vs) → l₃ ≡ written l₂ r₂ (active_text (get_or f.active 0 false) (get_or f.active 1 false) (get_or f.active 2 false) (get_or f.active 3 false)) → l₃ ≡ written l 0 (report_text f)
+  pub report_text_lem : (l l₁ l₂ l₃ : List ℕ) → l₁ ≡ written l 0 ws → l₂ ≡ written l₁ r₁ (render report vs) → l₃ ≡ written l₂ r₂ (active_of f.active) → l₃ ≡ written l 0 (report_text f)
   report_text_lem l l₁ l₂ l₃ i j k = rw whole (search (then_text, p, q, i, j, k))
-
-module _ (f : Fit) (t : Bool) (e : t ≡ is_refused f.end) where
-  pub fit_refused : (n m : ℕ) → t ≡ true → n ≡ number_of f.end → m ≡ reason_of f.end → refusal_text n f.quadrature.0 m ≡ fit_text f
-  unfolding fit_text
-  fit_refused n m h p q = rw (← e, h, p, q)
-
-  pub fit_reported : t ≡ false → report_text f ≡ fit_text f
-  unfolding fit_text
-  fit_reported h = rw (← e, h)

@@ -1,20 +1,19 @@
 -- An answer's text.
-use Rattle.std.specs.Prelude.{Bool, false, cond, ◌||◌, List, [], ◌∷◌, ◌++◌, ℕ, get_or}
+use Rattle.std.specs.Prelude.{Bool, false, cond, ◌||◌, List, [], ◌∷◌, ◌++◌, ℕ, get_or, Result, Ok, Err}
 use Rattle.std.specs.Float.{nan}
 use Rattle.num.specs.F64.{bits_of}
-use Rattle.work.specs.Ended.{is_refused, number_of, reason_of}
+use Rattle.work.specs.Refusal.{number_of, reason_of}
 use Rattle.descent.specs.declared.Status.{Status}
-use Rattle.descent.specs.declared.Status.TheVariants.{NoStatus, Converged, EvaluationLimit, IterationLimit, LineSearchFailed}
+use Rattle.descent.specs.declared.Status.TheVariants.{Converged, EvaluationLimit, IterationLimit, LineSearchFailed}
 use Rattle.fit.specs.declared.report.Fit.{Fit}
+use Rattle.fit.specs.declared.report.Refused.{Refused}
 use Rattle.template.specs.Template.{ascii, render}
 
 -- number, count, and the reason or the line
 unfoldable pub refusal_text : ℕ → ℕ → ℕ → List ℕ
 refusal_text number count reason = render (ascii "refused # # #\n") (number ∷ count ∷ reason ∷ [])
 
--- an answer always has a status
 unfoldable pub status_text : Status → List ℕ
-status_text NoStatus = ascii "status none\n"
 status_text Converged = ascii "status converged\n"
 status_text EvaluationLimit = ascii "status evaluation-limit\n"
 status_text IterationLimit = ascii "status iteration-limit\n"
@@ -41,9 +40,20 @@ marks_text a b c d = mark a (ascii " 0") ++ (mark b (ascii " 1") ++ (mark c (asc
 unfoldable pub active_text : Bool → Bool → Bool → Bool → List ℕ
 active_text a b c d = cond (a || (b || (c || d))) (marks_text a b c d) (ascii " none") ++ ascii "\n"
 
-unfoldable pub report_text : Fit → List ℕ
-report_text f =
-    status_text f.status ++ (render report (report_values f) ++ active_text (get_or f.active 0 false) (get_or f.active 1 false) (get_or f.active 2 false) (get_or f.active 3 false))
+-- of the four coordinates
+abbrev pub any_of : List Bool → Bool
+any_of on = get_or on 0 false || (get_or on 1 false || (get_or on 2 false || get_or on 3 false))
 
-unfoldable pub fit_text : Fit → List ℕ
-fit_text f = cond (is_refused f.end) (refusal_text (number_of f.end) f.quadrature.0 (reason_of f.end)) (report_text f)
+abbrev pub marks_of : List Bool → List ℕ
+marks_of on = marks_text (get_or on 0 false) (get_or on 1 false) (get_or on 2 false) (get_or on 3 false)
+
+abbrev pub active_of : List Bool → List ℕ
+active_of on = active_text (get_or on 0 false) (get_or on 1 false) (get_or on 2 false) (get_or on 3 false)
+
+unfoldable pub report_text : Fit → List ℕ
+report_text f = status_text f.status ++ (render report (report_values f) ++ active_of f.active)
+
+-- the report, or the refusal with its count
+unfoldable pub fit_text : Result Fit Refused → List ℕ
+fit_text (Ok f) = report_text f
+fit_text (Err e) = refusal_text (number_of e.refusal) e.quadrature.0 (reason_of e.refusal)

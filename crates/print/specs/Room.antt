@@ -1,10 +1,11 @@
 -- The room that every answer fits: so one test of a buffer's length is enough.
-use Rattle.std.specs.Prelude.{◌≡◌, refl, Bool, true, false, cond, List, [], ◌∷◌, ℕ, ◌≤◌, ◌<◌, length, get_or}
+use Rattle.std.specs.Prelude.{◌≡◌, refl, Bool, true, false, List, [], ◌∷◌, ℕ, ◌≤◌, ◌<◌, length, get_or, Result, Ok, Err}
 use Rattle.std.proofs.Common.{arith, lit≤, length-append}
-use Rattle.work.specs.Ended.{is_refused, number_of, reason_of}
+use Rattle.work.specs.Refusal.{number_of, reason_of}
 use Rattle.descent.specs.declared.Status.{Status}
-use Rattle.descent.specs.declared.Status.TheVariants.{NoStatus, Converged, EvaluationLimit, IterationLimit, LineSearchFailed}
+use Rattle.descent.specs.declared.Status.TheVariants.{Converged, EvaluationLimit, IterationLimit, LineSearchFailed}
 use Rattle.fit.specs.declared.report.Fit.{Fit}
+use Rattle.fit.specs.declared.report.Refused.{Refused}
 use Rattle.template.specs.Template.{ascii}
 use Rattle.render.specs.Written.{written}
 use Rattle.render.specs.Width.{width, length_render}
@@ -29,7 +30,6 @@ refusal_fits n c r = length_render (ascii "refused # # #\n") (n ∷ c ∷ r ∷ 
 
 pub status_fits : (s : Status) → length (status_text s) ≤ 26
 unfolding status_text
-status_fits NoStatus = lit≤ tt
 status_fits Converged = lit≤ tt
 status_fits EvaluationLimit = lit≤ tt
 status_fits IterationLimit = lit≤ tt
@@ -58,20 +58,16 @@ active_fits false false true false = lit≤ tt
 active_fits false false false true = lit≤ tt
 active_fits false false false false = lit≤ tt
 
-choice_fits : (t : Bool) (x y : List ℕ) (n : ℕ) → length x ≤ n → length y ≤ n → length (cond t x y) ≤ n
-choice_fits true x y n p q = p
-choice_fits false x y n p q = q
-
 pub report_fits : (f : Fit) → length (report_text f) ≤ longest
 unfolding report_text
 report_fits f =
     let h = length_render report (report_values f) in
     simp length-append (omega (arith, status_fits f.status, report_width, h, active_fits (get_or f.active 0 false) (get_or f.active 1 false) (get_or f.active 2 false) (get_or f.active 3 false)))
 
-pub longest_fits : (f : Fit) → length (fit_text f) ≤ longest
+pub longest_fits : (f : Result Fit Refused) → length (fit_text f) ≤ longest
 unfolding fit_text
-longest_fits f =
-    choice_fits (is_refused f.end) _ _ longest (omega (arith, refusal_fits (number_of f.end) f.quadrature.0 (reason_of f.end))) (report_fits f)
+longest_fits (Ok f) = report_fits f
+longest_fits (Err e) = omega (arith, refusal_fits (number_of e.refusal) e.quadrature.0 (reason_of e.refusal))
 
-pub answer_fits : (f : Fit) → length (fit_text f) ≤ room
+pub answer_fits : (f : Result Fit Refused) → length (fit_text f) ≤ room
 answer_fits f = let h = longest_fits f in omega arith

@@ -22,19 +22,8 @@ ghost use Rattle.store.specs.Given.{given};
 ghost use Rattle.parts.specs.Lent.{lent, told, part_in_of, finish_in_of};
 ghost use Rattle.probit.specs.Joined.{answered, answer_in};
 
-use fit::Fit;
-use fit::report::Seen;
-use request::Request;
-
-// So the litters of a run that is too long are not walked along.
-fn fitted(r: Request, litters: &[u32]) -> Fit
-    ensures { (result ≡ fit_of r litters.now) × (litters.now ≡ litters.now) }
-{
-    let k = litters::table::handed_on(litters.len());
-    fit::fit_probit_normal_binomial(r, &litters[..k])
-}
-
 // Twelve bounds: low, high and start of mean 0, mean 1, SD 0, SD 1. Answers the ending's number.
+#[tactic(auto, using(crate::proofs::Laws::fitted), unfolding(buffers::specs::Buffers::fit_room_of, buffers::specs::Buffers::fit_given))]
 pub fn probit_fit(
     bounds: &[f64],
     tolerance: f64,
@@ -45,24 +34,18 @@ pub fn probit_fit(
     numbers: &mut [f64],
     counts: &mut [u64],
 ) -> u64
-    ensures counts_after { given result numbers.new counts.new ≡ fit_given (fit_of (request_of bounds.now tolerance evaluations iterations quadrature) litters.now) bounds.now numbers.old counts.old }
-    ensures bounds_value { (bounds.now ≡ bounds.now) × (litters.now ≡ litters.now) }
+    ensures { given result numbers.new counts.new ≡ fit_given (fit_of (request_of bounds.now tolerance evaluations iterations quadrature) litters.now) bounds.now numbers.old counts.old }
 {
     if !buffers::fit_room(bounds.len(), numbers.len(), counts.len()) {
         return 1;
     }
     let r = request::requested(bounds, tolerance, evaluations, iterations, quadrature);
-    buffers::put_fit(fitted(r, litters), numbers, counts)
-}
-
-fn watched(r: Request, litters: &[u32], number: u64) -> Seen
-    ensures { (result ≡ watched_of r litters.now number) × (litters.now ≡ litters.now) }
-{
-    let k = litters::table::handed_on(litters.len());
-    fit::report::fit_watched(r, &litters[..k], number)
+    let f = fit::fit_probit_normal_binomial(r, vet_host::handed_on(litters));
+    buffers::put_fit(f, numbers, counts)
 }
 
 // probit_fit, and beside it why the trial of that number, from 1, ended as it did, and what stopped the fit. Answers the ending's number.
+#[tactic(auto, using(crate::proofs::Laws::seen), unfolding(explain::specs::Counts::why_room_of, buffers::specs::Buffers::fit_room_of, explain::specs::Counts::why_given))]
 pub fn probit_why(
     bounds: &[f64],
     tolerance: f64,
@@ -75,18 +58,18 @@ pub fn probit_why(
     counts: &mut [u64],
     reasons: &mut [u64],
 ) -> u64
-    ensures reasons_after { got result numbers.new counts.new reasons.new ≡ why_given (watched_of (request_of bounds.now tolerance evaluations iterations quadrature) litters.now number) bounds.now numbers.old counts.old reasons.old }
-    ensures bounds_value { (bounds.now ≡ bounds.now) × (litters.now ≡ litters.now) }
+    ensures { got result numbers.new counts.new reasons.new ≡ why_given (watched_of (request_of bounds.now tolerance evaluations iterations quadrature) litters.now number) bounds.now numbers.old counts.old reasons.old }
 {
     if !explain::why_room(bounds.len(), numbers.len(), counts.len(), reasons.len()) {
         return 1;
     }
     let r = request::requested(bounds, tolerance, evaluations, iterations, quadrature);
-    let s = watched(r, litters, number);
+    let s = fit::report::fit_watched(r, vet_host::handed_on(litters), number);
     explain::put_why(s, numbers, counts, reasons)
 }
 
 // Claimed are two means, two variances and the likelihood. Answers the verdict's number: 0 accepted, 1, 2, 5, 6 or 7.
+#[tactic(auto, unfolding(claim::specs::Give::vet_room_of, claim::specs::Give::vetted_given))]
 pub fn probit_vet(
     bounds: &[f64],
     tolerance: f64,
@@ -98,8 +81,7 @@ pub fn probit_vet(
     numbers: &mut [f64],
     counts: &mut [u64],
 ) -> u64
-    ensures counts_after { given result numbers.new counts.new ≡ vetted_given (vet_of (request_of bounds.now tolerance evaluations iterations quadrature) litters.now (claim_from claimed.now)) bounds.now claimed.now numbers.old counts.old }
-    ensures bounds_value { (bounds.now ≡ bounds.now) × (litters.now ≡ litters.now) × (claimed.now ≡ claimed.now) }
+    ensures { given result numbers.new counts.new ≡ vetted_given (vet_of (request_of bounds.now tolerance evaluations iterations quadrature) litters.now (claim_from claimed.now)) bounds.now claimed.now numbers.old counts.old }
 {
     if !claim::give::vet_room(bounds.len(), claimed.len(), numbers.len(), counts.len()) {
         return 1;
@@ -116,14 +98,14 @@ fn point_of(p: &[f64]) -> [f64; 4]
 }
 
 // Four coordinates: two means, then two variances. Answers the ending's number.
+#[tactic(auto, unfolding(buffers::specs::Buffers::objective_room_of, buffers::specs::Buffers::objective_given))]
 pub fn probit_objective(
     point: &[f64],
     litters: &[u32],
     numbers: &mut [f64],
     counts: &mut [u64],
 ) -> u64
-    ensures counts_after { given result numbers.new counts.new ≡ objective_given (objective_of (point_of point.now) litters.now) point.now numbers.old counts.old }
-    ensures point_value { (point.now ≡ point.now) × (litters.now ≡ litters.now) }
+    ensures { given result numbers.new counts.new ≡ objective_given (objective_of (point_of point.now) litters.now) point.now numbers.old counts.old }
 {
     if !buffers::objective_room(point.len(), numbers.len(), counts.len()) {
         return 1;
@@ -134,9 +116,9 @@ pub fn probit_objective(
 }
 
 // Answers the ending's number.
+#[tactic(auto, unfolding(buffers::specs::Buffers::summary_given))]
 pub fn probit_summary(litters: &[u32], counts: &mut [u64]) -> u64
-    ensures counts_after { given result [] counts.new ≡ summary_given (summary_of litters.now) counts.old }
-    ensures litters_value { litters.now ≡ litters.now }
+    ensures { given result [] counts.new ≡ summary_given (summary_of litters.now) counts.old }
 {
     if counts.len() < 8 {
         return 1;
@@ -152,8 +134,7 @@ pub fn probit_intervals(
     marks: u64,
     numbers: &mut [f64],
 ) -> u64
-    ensures numbers_after { filled result numbers.new ≡ intervals_filled estimates.now covariance.now errors.now marks numbers.old }
-    ensures estimates_value { (estimates.now ≡ estimates.now) × (covariance.now ≡ covariance.now) × (errors.now ≡ errors.now) }
+    ensures { filled result numbers.new ≡ intervals_filled estimates.now covariance.now errors.now marks numbers.old }
 {
     intervals::put_intervals(estimates, covariance, errors, marks, numbers)
 }
@@ -195,8 +176,7 @@ pub fn probit_counts_objective(
     numbers: &mut [f64],
     counts: &mut [u64],
 ) -> u64
-    ensures counts_after { given result numbers.new counts.new ≡ counts_objective_given (counts_objective_of shape rate events.now exposures.now) numbers.old counts.old }
-    ensures events_value { (events.now ≡ events.now) × (exposures.now ≡ exposures.now) }
+    ensures { given result numbers.new counts.new ≡ counts_objective_given (counts_objective_of shape rate events.now exposures.now) numbers.old counts.old }
 {
     counts_host::objective_in(shape, rate, events, exposures, numbers, counts)
 }
@@ -212,8 +192,7 @@ pub fn probit_counts_fit(
     numbers: &mut [f64],
     counts: &mut [u64],
 ) -> u64
-    ensures counts_after { given result numbers.new counts.new ≡ counts_fit_given (counts_fit_of (counts_request_of bounds.now tolerance evaluations iterations) events.now exposures.now) bounds.now numbers.old counts.old }
-    ensures bounds_value { (bounds.now ≡ bounds.now) × (events.now ≡ events.now) × (exposures.now ≡ exposures.now) }
+    ensures { given result numbers.new counts.new ≡ counts_fit_given (counts_fit_of (counts_request_of bounds.now tolerance evaluations iterations) events.now exposures.now) bounds.now numbers.old counts.old }
 {
     counts_host::fit_in(
         bounds,
@@ -236,8 +215,8 @@ pub fn probit_version() -> u64
 
 // A request's bytes in, its answer's bytes out: how many, or 0 where `out` has fewer than 512 bytes, and then it is left as it was.
 pub fn probit_text(request: &[u8], out: &mut [u8]) -> usize
-    ensures value { length out.old < room → (result ≡ 0) × (out.new ≡ out.old) }
-    ensures value_2 { room ≤ length out.old → (result ≡ length (answer_text request.now)) × (out.new ≡ written out.old 0 (answer_text request.now)) }
+    ensures no_room { length out.old < room → (result ≡ 0) × (out.new ≡ out.old) }
+    ensures answered { room ≤ length out.old → (result ≡ length (answer_text request.now)) × (out.new ≡ written out.old 0 (answer_text request.now)) }
 {
     text::answer(request, out)
 }
@@ -262,6 +241,7 @@ pub fn probit_finish(
 }
 
 // A finishing call too, with the answer's bytes: how many, or 0 for a wrong size or a short buffer, and then nothing is written.
+#[tactic(auto, unfolding(crate::specs::Joined::answer_room_of, crate::specs::Joined::answer_in, parts::specs::Lent::is_sized_of))]
 pub fn probit_answer(held: &[u8], counts: &mut [u64], out: &mut [u8]) -> usize
     ensures { answered result counts.new out.new ≡ answer_in held.now counts.old out.old }
 {

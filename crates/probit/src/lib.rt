@@ -5,8 +5,8 @@
 pub mod interface;
 pub mod joined;
 
-pub use joined::{Answered, answer};
-pub use parts::{Finished, Reader, Taken, finish, new, part};
+pub use joined::answer;
+pub use parts::Reader;
 pub use records::{
     Litter, fit_probit_normal_binomial, probit_normal_binomial_objective, summarize,
 };

@@ -36,8 +36,7 @@ pub extern "C" fn probit_fit(
     numbers: &mut [f64],
     counts: &mut [u64],
 ) -> u64
-    ensures counts_after { given result numbers.new counts.new ≡ fit_given (fit_of (request_of bounds.now tolerance evaluations iterations quadrature) litters.now) bounds.now numbers.old counts.old }
-    ensures bounds_value { (bounds.now ≡ bounds.now) × (litters.now ≡ litters.now) }
+    ensures { given result numbers.new counts.new ≡ fit_given (fit_of (request_of bounds.now tolerance evaluations iterations quadrature) litters.now) bounds.now numbers.old counts.old }
 {
     probit::interface::probit_fit(
         bounds,
@@ -65,8 +64,7 @@ pub extern "C" fn probit_why(
     counts: &mut [u64],
     reasons: &mut [u64],
 ) -> u64
-    ensures reasons_after { got result numbers.new counts.new reasons.new ≡ why_given (watched_of (request_of bounds.now tolerance evaluations iterations quadrature) litters.now number) bounds.now numbers.old counts.old reasons.old }
-    ensures bounds_value { (bounds.now ≡ bounds.now) × (litters.now ≡ litters.now) }
+    ensures { got result numbers.new counts.new reasons.new ≡ why_given (watched_of (request_of bounds.now tolerance evaluations iterations quadrature) litters.now number) bounds.now numbers.old counts.old reasons.old }
 {
     probit::interface::probit_why(
         bounds,
@@ -95,8 +93,7 @@ pub extern "C" fn probit_vet(
     numbers: &mut [f64],
     counts: &mut [u64],
 ) -> u64
-    ensures counts_after { given result numbers.new counts.new ≡ vetted_given (vet_of (request_of bounds.now tolerance evaluations iterations quadrature) litters.now (claim_from claimed.now)) bounds.now claimed.now numbers.old counts.old }
-    ensures bounds_value { (bounds.now ≡ bounds.now) × (litters.now ≡ litters.now) × (claimed.now ≡ claimed.now) }
+    ensures { given result numbers.new counts.new ≡ vetted_given (vet_of (request_of bounds.now tolerance evaluations iterations quadrature) litters.now (claim_from claimed.now)) bounds.now claimed.now numbers.old counts.old }
 {
     probit::interface::probit_vet(
         bounds,
@@ -119,8 +116,7 @@ pub extern "C" fn probit_objective(
     numbers: &mut [f64],
     counts: &mut [u64],
 ) -> u64
-    ensures counts_after { given result numbers.new counts.new ≡ objective_given (objective_of (point_of point.now) litters.now) point.now numbers.old counts.old }
-    ensures point_value { (point.now ≡ point.now) × (litters.now ≡ litters.now) }
+    ensures { given result numbers.new counts.new ≡ objective_given (objective_of (point_of point.now) litters.now) point.now numbers.old counts.old }
 {
     probit::interface::probit_objective(point, litters, numbers, counts)
 }
@@ -128,8 +124,7 @@ pub extern "C" fn probit_objective(
 // Answers the ending's number.
 #[unsafe(no_mangle)]
 pub extern "C" fn probit_summary(litters: &[u32], counts: &mut [u64]) -> u64
-    ensures counts_after { given result [] counts.new ≡ summary_given (summary_of litters.now) counts.old }
-    ensures litters_value { litters.now ≡ litters.now }
+    ensures { given result [] counts.new ≡ summary_given (summary_of litters.now) counts.old }
 {
     probit::interface::probit_summary(litters, counts)
 }
@@ -143,8 +138,7 @@ pub extern "C" fn probit_intervals(
     marks: u64,
     numbers: &mut [f64],
 ) -> u64
-    ensures numbers_after { filled result numbers.new ≡ intervals_filled estimates.now covariance.now errors.now marks numbers.old }
-    ensures estimates_value { (estimates.now ≡ estimates.now) × (covariance.now ≡ covariance.now) × (errors.now ≡ errors.now) }
+    ensures { filled result numbers.new ≡ intervals_filled estimates.now covariance.now errors.now marks numbers.old }
 {
     probit::interface::probit_intervals(estimates, covariance, errors, marks, numbers)
 }
@@ -196,8 +190,7 @@ pub extern "C" fn probit_counts_objective(
     numbers: &mut [f64],
     counts: &mut [u64],
 ) -> u64
-    ensures counts_after { given result numbers.new counts.new ≡ counts_objective_given (counts_objective_of shape rate events.now exposures.now) numbers.old counts.old }
-    ensures events_value { (events.now ≡ events.now) × (exposures.now ≡ exposures.now) }
+    ensures { given result numbers.new counts.new ≡ counts_objective_given (counts_objective_of shape rate events.now exposures.now) numbers.old counts.old }
 {
     probit::interface::probit_counts_objective(shape, rate, events, exposures, numbers, counts)
 }
@@ -214,8 +207,7 @@ pub extern "C" fn probit_counts_fit(
     numbers: &mut [f64],
     counts: &mut [u64],
 ) -> u64
-    ensures counts_after { given result numbers.new counts.new ≡ counts_fit_given (counts_fit_of (counts_request_of bounds.now tolerance evaluations iterations) events.now exposures.now) bounds.now numbers.old counts.old }
-    ensures bounds_value { (bounds.now ≡ bounds.now) × (events.now ≡ events.now) × (exposures.now ≡ exposures.now) }
+    ensures { given result numbers.new counts.new ≡ counts_fit_given (counts_fit_of (counts_request_of bounds.now tolerance evaluations iterations) events.now exposures.now) bounds.now numbers.old counts.old }
 {
     probit::interface::probit_counts_fit(
         bounds,
@@ -240,8 +232,8 @@ pub extern "C" fn probit_version() -> u64
 // A request's bytes in, its answer's bytes out: how many, or 0 where `out` has fewer than 512 bytes, and then it is left as it was.
 #[unsafe(no_mangle)]
 pub extern "C" fn probit_text(request: &[u8], out: &mut [u8]) -> usize
-    ensures value { length out.old < room → (result ≡ 0) × (out.new ≡ out.old) }
-    ensures value_2 { room ≤ length out.old → (result ≡ length (answer_text request.now)) × (out.new ≡ written out.old 0 (answer_text request.now)) }
+    ensures no_room { length out.old < room → (result ≡ 0) × (out.new ≡ out.old) }
+    ensures answered { room ≤ length out.old → (result ≡ length (answer_text request.now)) × (out.new ≡ written out.old 0 (answer_text request.now)) }
 {
     probit::interface::probit_text(request, out)
 }

@@ -1,33 +1,25 @@
 // The integral and its derivatives' moments: one rule after another, the panels doubled until two rules agree.
 #![tactic(auto)]
 
-ghost use Rattle.std.specs.Prelude.{◌≡◌};
-ghost use Rattle.quadrature.specs.Quadrature.{nothing_of, finite_rest_of, sound_of, spoiled_of, larger_of, refined_of, integrated_of};
+ghost use Rattle.std.specs.Prelude.{◌≡◌, false};
+ghost use Rattle.work.specs.Answer.{Did};
+ghost use Rattle.posterior.specs.Integrand.{at, here};
+ghost use Rattle.panel.specs.Panel.{no_sums};
+ghost use Rattle.quadrature.specs.Quadrature.{finite_rest_of, sound_of, spoiled_of, larger_of, refined_of, agreed_of, rules};
 
 use legendre::Pair;
 use panel::Hump;
 use posterior::integrand::Posterior;
-use work::Ending;
+use work::{Meter, Refusal};
 
+// The sums of the rule that agreed with the one before it, and their largest relative move from that.
 #[derive(Clone, Copy)]
 pub struct Integral {
-    pub end: Ending,
-    pub p: Posterior,
     pub sum: [f64; 6],
     pub refinement: f64,
 }
 
-fn nothing(end: Ending, p: Posterior) -> Integral
-    ensures { result ≡ nothing_of end p }
-{
-    Integral {
-        end,
-        p,
-        sum: [0.0; 6],
-        refinement: 0.0,
-    }
-}
-
+#[tactic(auto, unfolding(crate::specs::Quadrature::finite_rest_of))]
 fn finite_rest(sum: [f64; 6]) -> bool
     ensures { result ≡ finite_rest_of sum }
 {
@@ -37,6 +29,7 @@ fn finite_rest(sum: [f64; 6]) -> bool
     num::both(num::is_finite(sum[1]), c)
 }
 
+#[tactic(auto, unfolding(crate::specs::Quadrature::sound_of))]
 fn sound(sum: [f64; 6]) -> bool
     ensures { result ≡ sound_of sum }
 {
@@ -62,6 +55,8 @@ fn larger(m: f64, total: f64, sum: f64, old: f64) -> f64
     num::max(m, num::abs(sum - old) / (total + num::abs(sum)))
 }
 
+// Sum by sum: the definition is these six steps, and a fold over two arrays is no plainer.
+#[tactic(auto, unfolding(crate::specs::Quadrature::refined_of))]
 fn refined(sum: [f64; 6], old: [f64; 6]) -> f64
     ensures { result ≡ refined_of sum old }
 {
@@ -73,34 +68,41 @@ fn refined(sum: [f64; 6], old: [f64; 6]) -> f64
     larger(e, sum[0], sum[5], old[5])
 }
 
-pub fn integrated(p: Posterior, rule: [Pair; 16], h: Hump) -> Integral
-    ensures { result ≡ integrated_of p rule h }
+// The largest relative move of a sum from the rule before, where there was one and the two agree.
+fn agreed(sum: [f64; 6], old: Option<[f64; 6]>) -> Option<f64>
+    ensures { result ≡ agreed_of sum old }
 {
-    let mut q = p;
-    let mut seen = false;
-    let mut old = [0.0; 6];
-    for k in 0..10u32 {
-        let r = panel::sides(q, rule, h, 1u32 << k);
-        let end = r.end;
-        q = r.p;
-        let s = r.sum;
-        if work::refused(end) {
-            return nothing(end, q);
+    match old {
+        None => None,
+        Some(o) => {
+            let refinement = refined(sum, o);
+            if refinement <= 1e-11 {
+                Some(refinement)
+            } else {
+                None
+            }
         }
-        if spoiled(s) {
-            return nothing(Ending::Domain(4), q);
-        }
-        let refinement = refined(s, old);
-        if num::both(seen, refinement <= 1e-11) {
-            return Integral {
-                end: Ending::Answered,
-                p: q,
-                sum: s,
-                refinement,
-            };
-        }
-        seen = true;
-        old = s;
     }
-    nothing(Ending::Domain(5), q)
+}
+
+pub fn integrated(
+    p: Posterior,
+    rule: &[Pair; 16],
+    h: Hump,
+    meter: &mut Meter,
+) -> Result<Integral, Refusal>
+    ensures { Did at (rules (here p) rule.now h 10 0 false no_sums) meter.old result meter.new }
+{
+    let mut old = None;
+    for k in 0..10u32 {
+        let sum = panel::sides(p, rule, h, 1u32 << k, meter)?;
+        if spoiled(sum) {
+            return Err(Refusal::Domain(4));
+        }
+        if let Some(refinement) = agreed(sum, old) {
+            return Ok(Integral { sum, refinement });
+        }
+        old = Some(sum);
+    }
+    Err(Refusal::Domain(5))
 }

@@ -1,9 +1,8 @@
 -- The litters as the code keeps them: three numbers a litter, in the engine's order, for 128 litters at most.
-use Rattle.std.specs.Prelude.{true, false, cond, List, [], ◌∷◌, ℕ, zero, suc, ◌+◌, ltb, length, get_or, replicate}
+use Rattle.std.specs.Prelude.{Result, Ok, Err, cond, List, [], ◌∷◌, ℕ, zero, suc, ◌+◌, ltb, length, get_or}
 use Rattle.template.specs.Read.{Reading, done, departs_at, read}
+use Rattle.template.specs.declared.read.Form.{Form}
 use Rattle.litters.specs.Table.{row_in}
-use Rattle.read.specs.declared.Lines.{Lines}
-use Rattle.read.specs.declared.Lines.TheVariants.{Litters, Departs}
 use Rattle.read.specs.declared.Asking.{Asking}
 use Rattle.read.specs.Request.{head, litter, Asked, asked, form}
 
@@ -35,18 +34,18 @@ fill_request b text = cond (ltb 8192 (length text)) b (fill_after b (read head 1
 
 -- ---- the code's answers
 
-abbrev pub held_of : List ℕ → ℕ → Asking
-held_of vs n = record { fits = true; line = 0; count = n; values = vs }
+abbrev pub held_of : List ℕ → ℕ → Result Asking Form
+held_of vs n = Ok (record { count = n; values = vs })
 
-abbrev pub departed_of : ℕ → Asking
-departed_of line = record { fits = false; line = line; count = 0; values = replicate 16 0 }
+abbrev pub departed_of : ℕ → Result Asking Form
+departed_of line = Err (record { line = line })
 
 -- the whole answer; n litters were before
-abbrev pub asking_of : ℕ → Asked → Asking
+abbrev pub asking_of : ℕ → Asked → Result Asking Form
 asking_of n (asked vs ls) = held_of vs (n + length ls)
 asking_of n (form line) = departed_of line
 
 -- what the lines after the head say, beside the head's values
-abbrev pub rows_say : List ℕ → Lines → Asking
-rows_say vs (Litters n) = held_of vs n
-rows_say vs (Departs line) = departed_of line
+abbrev pub rows_say : List ℕ → Result ℕ Form → Result Asking Form
+rows_say vs (Ok n) = held_of vs n
+rows_say vs (Err e) = Err e

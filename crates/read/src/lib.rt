@@ -1,55 +1,42 @@
 // A request's text read: the head's values, and the litters into a lent buffer.
 #![tactic(auto)]
 
-ghost use Rattle.std.specs.Prelude.{◌≡◌, List, ℕ, ◌+◌, ◌^◌, ◌≤◌, ◌<◌, length, get_or, drop};
+ghost use Rattle.std.specs.Prelude.{◌≡◌, List, ℕ, ◌+◌, ◌^◌, ◌≤◌, ◌<◌, length, get_or};
 ghost use Rattle.template.specs.Read.{read as Template·read};
-ghost use Rattle.read.specs.Request.{read_last, read_rows, read_request};
-ghost use Rattle.read.specs.Request.{closing};
-ghost use Rattle.read.specs.Rows.{put_litter, fill_rows, fill_request, asking_of, rows_say, departed_of};
+ghost use Rattle.read.specs.Request.{closing, read_last, read_rows, read_request};
+ghost use Rattle.read.specs.Rows.{put_litter, fill_rows, fill_request, asking_of, rows_say};
 
-// The number of litters, or the line at which the text departs.
-#[derive(Clone, Copy)]
-pub enum Lines {
-    Litters(u64),
-    Departs(u64),
-}
+use template::read::Form;
 
-// `values` and `count` are the request's where the text has the form; else `line` is the line at which it departs, beside zeros.
-#[derive(Clone, Copy)]
+// What a request asks: the head's values, and how many litters.
+#[derive(Clone, Copy, PartialEq, Eq)]
 pub struct Asking {
-    pub fits: bool,
-    pub line: u64,
     pub count: u64,
     pub values: [u64; 16],
 }
 
-// The last line, after n litters of which the first starts at `start`.
-fn last(text: &[u8], at: usize, n: u64, start: usize) -> Lines
-    requires { (at ≤ length text.now) × (n ≤ 8192) }
-    ensures { (vs : List ℕ) → rows_say vs result ≡ asking_of n (read_last vs (8 + n) start n (Template·read closing (8 + n) (drop at text.now))) }
+// The last line, after n litters of which the first starts at `start`: answers n.
+fn last(text: &[u8], n: u64, start: usize) -> Result<u64, Form>
+    requires { n ≤ 8192 }
+    ensures { (vs : List ℕ) → rows_say vs result ≡ asking_of n (read_last vs (8 + n) start n (Template·read closing (8 + n) text.now)) }
 {
     let line = 8 + n;
-    let r = template::read::read(text, at, b"rows # at #\n", line);
-    let v = r.values;
-    let next = r.at;
-    if !r.fits {
-        return Lines::Departs(line);
+    let last = template::read::read(text, b"rows # at #\n", line)?;
+    if last.values[0] != n || last.values[1] != start as u64 {
+        return Err(Form { line });
     }
-    if v[0] != n {
-        return Lines::Departs(line);
+    if !last.rest.is_empty() {
+        return Err(Form { line: last.line });
     }
-    if v[1] != start as u64 {
-        return Lines::Departs(line);
-    }
-    if next < text.len() {
-        return Lines::Departs(line + 1);
-    }
-    Lines::Litters(n)
+    Ok(n)
 }
 
-// The n-th litter, if the buffer has a place for it.
+// The n-th litter, if the buffer has a place for it. A line gives group, successes, total; the buffer holds successes, total, group.
+#[tactic(auto, using(crate::proofs::Laws::put_inside, crate::proofs::Laws::put_past))]
 fn put(v: [u64; 16], n: u64, litters: &mut [u32; 384])
-    requires { (get_or v 0 0 < 2 ^ 32) × (get_or v 1 0 < 2 ^ 32) × (get_or v 2 0 < 2 ^ 32) }
+    requires group { get_or v 0 0 < 2 ^ 32 }
+    requires successes { get_or v 1 0 < 2 ^ 32 }
+    requires total { get_or v 2 0 < 2 ^ 32 }
     ensures { litters.new ≡ put_litter litters.old n v }
 {
     if n < 128 {
@@ -60,59 +47,38 @@ fn put(v: [u64; 16], n: u64, litters: &mut [u32; 384])
     }
 }
 
-// The lines after the head, the first of which starts at `start`.
-fn rows(text: &[u8], start: usize, litters: &mut [u32; 384]) -> Lines
-    requires { start ≤ length text.now }
-    ensures { ((vs : List ℕ) → rows_say vs result ≡ asking_of 0 (read_rows 8192 vs start 0 (drop start text.now))) × (litters.new ≡ fill_rows 8192 0 litters.old (drop start text.now)) }
+// The lines after the head, the first of which starts at `start`: answers the number of litters.
+fn rows(text: &[u8], start: usize, litters: &mut [u32; 384]) -> Result<u64, Form>
+    ensures value { (vs : List ℕ) → rows_say vs result ≡ asking_of 0 (read_rows 8192 vs start 0 text.now) }
+    ensures filled { litters.new ≡ fill_rows 8192 0 litters.old text.now }
 {
-    let mut at = start;
+    let mut rest = text;
     for n in 0..8192u64 {
-        let r = template::read::read(text, at, b"litter # # #\n", 8 + n);
-        if !r.fits {
-            return last(text, at, n, start);
-        }
-        let v = r.values;
-        put(v, n, litters);
-        at = r.at;
+        let Ok(row) = template::read::read(rest, b"litter # # #\n", 8 + n) else {
+            return last(rest, n, start);
+        };
+        put(row.values, n, litters);
+        rest = row.rest;
     }
-    Lines::Departs(8200)
+    Err(Form { line: 8200 })
 }
 
-fn departed(line: u64) -> Asking
-    ensures { result ≡ departed_of line }
-{
-    Asking {
-        fits: false,
-        line,
-        count: 0,
-        values: [0; 16],
-    }
-}
-
-pub fn request(text: &[u8], litters: &mut [u32; 384]) -> Asking
-    ensures { (result ≡ asking_of 0 (read_request text.now)) × (litters.new ≡ fill_request litters.old text.now) }
+pub fn request(text: &[u8], litters: &mut [u32; 384]) -> Result<Asking, Form>
+    ensures value { result ≡ asking_of 0 (read_request text.now) }
+    ensures filled { litters.new ≡ fill_request litters.old text.now }
 {
     if 8192 < text.len() {
-        return departed(0);
+        return Err(Form { line: 0 });
     }
-    let r = template::read::read(
+    let head = template::read::read(
         text,
-        0,
         b"probit-request 1\nmean 0 % % %\nmean 1 % % %\nsd 0 % % %\nsd 1 % % %\nwork # # #\ntolerance %\n",
         1,
-    );
-    if !r.fits {
-        return departed(r.line);
-    }
-    let values = r.values;
-    let start = r.at;
-    match rows(text, start, litters) {
-        Lines::Litters(count) => Asking {
-            fits: true,
-            line: 0,
-            count,
-            values,
-        },
-        Lines::Departs(line) => departed(line),
-    }
+    )?;
+    let start = text.len() - head.rest.len();
+    let count = rows(head.rest, start, litters)?;
+    Ok(Asking {
+        count,
+        values: head.values,
+    })
 }

@@ -8,21 +8,26 @@ use fit::{Bounds, Fit, Request};
 use objective::Objective;
 use posterior::integrand::Posterior;
 use records::Litter;
-use summary::{GroupCounts, Summary};
-use work::{Ending, FitEvaluations, Iterations, QuadratureEvaluations};
+use summary::{Counts, GroupCounts};
+use work::{FitEvaluations, Iterations, Meter, QuadratureEvaluations, Refusal};
 
-fn told(name: &[u8], end: Ending, used: u64) {
+// The refusal's number and reason, 0 and 0 where there is none, and the evaluations.
+fn told(name: &[u8], refusal: Option<Refusal>, used: u64) {
+    let (number, reason) = match refusal {
+        Some(e) => (e.number(), e.reason()),
+        None => (0, 0),
+    };
     io::write_all(1, name);
     io::write_all(1, b" ");
-    io::print_decimal(1, work::number(end));
+    io::print_decimal(1, number);
     io::write_all(1, b" ");
-    io::print_decimal(1, work::reason(end));
+    io::print_decimal(1, reason);
     io::write_all(1, b" ");
     io::print_decimal(1, used);
 }
 
-fn ended(name: &[u8], end: Ending, used: u64) {
-    told(name, end, used);
+fn ended(name: &[u8], refusal: Option<Refusal>, used: u64) {
+    told(name, refusal, used);
     io::write_all(1, b"\n");
 }
 
@@ -42,6 +47,13 @@ fn counted(c: GroupCounts) {
     io::print_decimal(1, c.extreme);
 }
 
+fn number(summary: Result<Counts, Refusal>) -> u64 {
+    match summary {
+        Ok(_) => 0,
+        Err(refusal) => refusal.number(),
+    }
+}
+
 fn bounds(low: f64, high: f64, start: f64) -> Bounds {
     Bounds {
         low: [low, low],
@@ -59,20 +71,22 @@ fn fitted(name: &[u8], limit: u64, litters: [Litter; 4]) {
         quadrature: QuadratureEvaluations(limit),
         tolerance: 0.00000095367431640625,
     };
-    let f = records::fit_four(r, litters);
-    let end = f.end;
-    ended(name, end, f.quadrature.0);
+    match records::fit_probit_normal_binomial(r, &litters) {
+        Ok(f) => ended(name, None, f.quadrature.0),
+        Err(e) => ended(name, Some(e.refusal), e.quadrature.0),
+    }
 }
 
 fn evaluated(name: &[u8], litters: [Litter; 4]) {
-    let o = records::objective_four([0.0; 4], litters);
-    let end = o.end;
-    ended(name, end, o.used.0);
+    match records::probit_normal_binomial_objective([0.0; 4], &litters) {
+        Ok(o) => ended(name, None, o.used.0),
+        Err(e) => ended(name, Some(e.refusal), e.used.0),
+    }
 }
 
-fn totals(name: &[u8], s: Summary) {
-    let first = s.first;
-    let second = s.second;
+// Zeros beside a refusal.
+fn totals(name: &[u8], summary: Result<Counts, Refusal>) {
+    let Counts { first, second } = summary.unwrap_or_default();
     io::write_all(1, name);
     counted(first);
     counted(second);
@@ -80,14 +94,14 @@ fn totals(name: &[u8], s: Summary) {
 }
 
 fn summarized(name: &[u8], litters: [Litter; 4]) {
-    totals(name, records::summarize_four(litters));
+    totals(name, records::summarize(&litters));
 }
 
 fn litter(successes: u32, total: u32, group: u32) -> Litter {
     Litter {
-        successes: successes,
-        total: total,
-        group: group,
+        successes,
+        total,
+        group,
     }
 }
 
@@ -108,9 +122,9 @@ fn litters() -> [Litter; 129] {
 
 #[derive(Clone, Copy)]
 struct Answers {
-    fit: Fit,
-    objective: Objective,
-    summary: Summary,
+    fit: Result<Fit, fit::Refused>,
+    objective: Result<Objective, objective::Refused>,
+    summary: Result<Counts, Refusal>,
 }
 
 // The first n of the litters, as a slice that is lent to all three.
@@ -118,14 +132,43 @@ fn lent_first(r: Request, point: [f64; 4], litters: [Litter; 129], n: usize) -> 
     requires { n ≤ 129 }
 {
     let first = &litters[..n];
-    let f = records::fit_probit_normal_binomial(r, first);
-    let o = records::probit_normal_binomial_objective(point, first);
-    let s = records::summarize(first);
     Answers {
-        fit: f,
-        objective: o,
-        summary: s,
+        fit: records::fit_probit_normal_binomial(r, first),
+        objective: records::probit_normal_binomial_objective(point, first),
+        summary: records::summarize(first),
     }
+}
+
+// Zeros beside a refusal.
+fn shown_fit(name: &[u8], fit: Result<Fit, fit::Refused>) {
+    let numbers = match fit {
+        Ok(f) => {
+            told(name, None, f.quadrature.0);
+            [f.means[0], f.means[1], f.sds[0], f.sds[1], f.nll]
+        }
+        Err(e) => {
+            told(name, Some(e.refusal), e.quadrature.0);
+            [0.0; 5]
+        }
+    };
+    for x in numbers {
+        shown(x);
+    }
+    io::write_all(1, b"\n");
+}
+
+fn shown_objective(name: &[u8], objective: Result<Objective, objective::Refused>) {
+    match objective {
+        Ok(o) => {
+            told(name, None, o.used.0);
+            shown(o.v.nll);
+        }
+        Err(e) => {
+            told(name, Some(e.refusal), e.used.0);
+            shown(0.0);
+        }
+    }
+    io::write_all(1, b"\n");
 }
 
 fn sliced(fit: &[u8], objective: &[u8], summary: &[u8], n: usize)
@@ -140,26 +183,12 @@ fn sliced(fit: &[u8], objective: &[u8], summary: &[u8], n: usize)
         tolerance: 0.00000095367431640625,
     };
     let a = lent_first(r, [0.25, -0.5, 0.25, 0.5625], litters(), n);
-    let f = a.fit;
-    let end = f.end;
-    told(fit, end, f.quadrature.0);
-    shown(f.means[0]);
-    shown(f.means[1]);
-    shown(f.sds[0]);
-    shown(f.sds[1]);
-    shown(f.nll);
-    let o = a.objective;
-    let stop = o.end;
-    io::write_all(1, b"\n");
-    told(objective, stop, o.used.0);
-    shown(o.v.nll);
-    io::write_all(1, b"\n");
-    let s = a.summary;
-    let last = s.end;
+    shown_fit(fit, a.fit);
+    shown_objective(objective, a.objective);
     io::write_all(1, summary);
     io::write_all(1, b" ");
-    io::print_decimal(1, work::number(last));
-    totals(b"", s);
+    io::print_decimal(1, number(a.summary));
+    totals(b"", a.summary);
 }
 
 fn lent(name: &[u8], used: u64) {
@@ -169,12 +198,13 @@ fn lent(name: &[u8], used: u64) {
         total: 2,
         mean: 0.0,
         sd: 1.0,
-        evaluations: QuadratureEvaluations(used),
+    };
+    let mut m = Meter {
+        used: QuadratureEvaluations(used),
         limit: QuadratureEvaluations(2),
     };
-    let a = posterior::lent::evaluate_lent(p, 0.0);
-    let end = a.end;
-    ended(name, end, a.p.evaluations.0);
+    let refusal = p.evaluate(0.0, &mut m).err();
+    ended(name, refusal, m.used.0);
 }
 
 fn main() {

@@ -2,7 +2,7 @@
 use Rattle.std.specs.Prelude.{◌≡◌, Bool, true, false, cond, List, [], ◌∷◌, ℕ, zero, suc, ◌+◌, ◌/◌, ◌≤◌, ltb, length}
 use Rattle.std.proofs.Common.{zero-le, arith, length-append}
 use Rattle.template.specs.DigitLaws.{digits_many}
-use Rattle.template.specs.Digits.{digits, places_from}
+use Rattle.template.specs.Digits.{places_from}
 use Rattle.template.specs.Template.{is_count, is_bits, is_hole_of, piece, values_after, render, first}
 
 -- a count has at most twenty digits, an f64's bits have sixteen

@@ -1,6 +1,7 @@
 -- Laws of bytes put into a buffer: the length stays, one text after another is their `++`, and what was put in is read again.
 use Rattle.std.specs.Prelude.{◌≡◌, refl, List, [], ◌∷◌, ◌++◌, ℕ, suc, ◌+◌, ◌≤◌, ◌<◌, length, take, set}
-use Rattle.std.proofs.Common.{◌∙◌, append-nil, add-one, add-zero, zero-add, arith, length-set, take-suc-set}
+use Rattle.std.proofs.Math.Seq.{paste, sets, sets-eq}
+use Rattle.std.proofs.Common.{sym, take_all, ◌∙◌, append-nil, add-one, add-zero, zero-add, arith, length-set, take-suc-set}
 use Rattle.std.proofs.Math.Seq.{append_snoc}
 use Rattle.render.specs.Written.{written}
 
@@ -47,3 +48,12 @@ by_whole bs ds r p e = rw (← e) p
 
 pub from_start : (bs ds : List ℕ) (r : ℕ) → r ≡ 0 + length ds → ds ≡ bs → r ≡ length bs
 from_start bs ds r p e = rw (← e, ← zero-add (length ds)) p
+
+written_sets : (l : List ℕ) (at : ℕ) (bs : List ℕ) → written l at bs ≡ sets l at bs
+unfolding written
+written_sets l at [] = refl
+written_sets l at (b ∷ bs) = rw add-one (written_sets (set l at b) (suc at) bs)
+
+-- what stands before the place, the bytes, and what stands after them
+pub written_is : (l : List ℕ) (at : ℕ) (bs : List ℕ) → at + length bs ≤ length l → paste l at bs (length bs) ≡ written l at bs
+written_is l at bs h = rw (take_all (length bs) bs (omega arith)) (sym (written_sets l at bs ∙ sets-eq bs l at h))

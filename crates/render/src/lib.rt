@@ -37,7 +37,11 @@ fn glyph(d: u64) -> u8
     requires { d < 16 }
     ensures { result ≡ Digits·glyph d }
 {
-    if d < 10 { 48 + d as u8 } else { 87 + d as u8 }
+    if d < 10 {
+        b'0' + d as u8
+    } else {
+        b'a' - 10 + d as u8
+    }
 }
 
 // The last k digits of n, from place `at` on; answers the place after them.
@@ -46,6 +50,7 @@ pub fn digits(base: u64, k: usize, n: u64, out: &mut [u8], at: usize) -> usize
     ensures { (result ≡ at + k) × (out.new ≡ written out.old at (Digits·digits base k n)) }
 {
     let end = at + k;
+    // By place: a digit is found by how far from the last it stands.
     for i in at..end {
         out[i] = glyph(digit(base, end - (i + 1), n));
     }
@@ -57,16 +62,15 @@ pub fn text(s: &[u8], out: &mut [u8], at: usize) -> usize
     requires { at + length s.now ≤ length out.old }
     ensures { (result ≡ at + length s.now) × (out.new ≡ written out.old at s.now) }
 {
-    for i in 0..s.len() {
-        out[at + i] = s[i];
-    }
-    at + s.len()
+    let end = at + s.len();
+    out[at..end].copy_from_slice(s);
+    end
 }
 
 fn value(values: &[u64], i: usize) -> u64
     ensures { result ≡ get_or values.now i 0 }
 {
-    if i < values.len() { values[i] } else { 0 }
+    values.get(i).copied().unwrap_or(0)
 }
 
 // How many values were taken, after the byte c of a template.
@@ -74,10 +78,10 @@ fn taken_after(c: u8, taken: usize) -> usize
     requires { taken < 2 ^ 63 }
     ensures { result ≡ taken_after_of c taken }
 {
-    if c == b'#' {
-        return taken + 1;
+    match c {
+        b'#' | b'%' => taken + 1,
+        _ => taken,
     }
-    if c == b'%' { taken + 1 } else { taken }
 }
 
 // What the byte c of a template becomes, v being the next value.
@@ -85,14 +89,14 @@ fn piece(c: u8, v: u64, out: &mut [u8], at: usize) -> usize
     requires { at + widest c ≤ length out.old }
     ensures { (result ≡ at + length (Template·piece c (v ∷ []))) × (out.new ≡ written out.old at (Template·piece c (v ∷ []))) }
 {
-    if c == b'#' {
-        return digits(10, places(v), v, out, at);
+    match c {
+        b'#' => digits(10, places(v), v, out, at),
+        b'%' => digits(16, 16, v, out, at),
+        _ => {
+            out[at] = c;
+            at + 1
+        }
     }
-    if c == b'%' {
-        return digits(16, 16, v, out, at);
-    }
-    out[at] = c;
-    at + 1
 }
 
 // The template with its values, from place `at` on; answers the place after it. A value that is not there is 0.
@@ -102,11 +106,9 @@ pub fn put(template: &[u8], values: &[u64], out: &mut [u8], at: usize) -> usize
 {
     let mut next = at;
     let mut taken: usize = 0;
-    for i in 0..template.len() {
-        let c = template[i];
-        let v = value(values, taken);
-        next = piece(c, v, out, next);
-        taken = taken_after(c, taken);
+    for c in template {
+        next = piece(*c, value(values, taken), out, next);
+        taken = taken_after(*c, taken);
     }
     next
 }

@@ -2,102 +2,38 @@
 // A record is a line `request N` and N bytes, then a line `answer M` and M bytes. Writes a line for each that differs, then how many ran.
 #![tactic(auto)]
 
-ghost use Rattle.std.specs.Prelude.{◌≡◌, length};
+ghost use Rattle.std.specs.Prelude.{◌≡◌, ◌≤◌, ◌<◌, length};
+ghost use Rattle.template.specs.Template.{holes};
 
 // The file descriptors of standard input and standard output.
 const STDIN: i32 = 0;
 
 const STDOUT: i32 = 1;
 
-// The bytes that a record's line announces, from one place to another.
-#[derive(Clone, Copy)]
-enum Part {
-    Bytes(usize, usize),
-    Missing,
+// The bytes that a record's line announces, and what is left of the list.
+fn part<'a>(list: &'a [u8], line: &[u8]) -> Option<(&'a [u8], &'a [u8])>
+    requires places { holes line.now ≤ 16 }
+    requires short { length line.now < 100 }
+{
+    let head = template::read::read(list, line, 1).ok()?;
+    let count = head.values[0];
+    if (head.rest.len() as u64) < count {
+        return None;
+    }
+    Some(head.rest.split_at(count as usize))
 }
 
-// What came of a record, and where the next one starts.
-#[derive(Clone, Copy)]
-enum Outcome {
-    Same(usize),
-    Differs(usize),
-    Broken,
-}
-
-fn part_of(length: usize, r: template::read::Values) -> Part {
-    let start = r.at;
-    let v = r.values;
-    if !r.fits {
-        return Part::Missing;
-    }
-    if length < start {
-        return Part::Missing;
-    }
-    let left = length - start;
-    if (left as u64) < v[0] {
-        return Part::Missing;
-    }
-    Part::Bytes(start, start + v[0] as usize)
-}
-
-fn request_at(list: &[u8], at: usize) -> Part {
-    if list.len() < at {
-        return Part::Missing;
-    }
-    part_of(
-        list.len(),
-        template::read::read(list, at, b"request #\n", 1),
-    )
-}
-
-fn answer_at(list: &[u8], at: usize) -> Part {
-    if list.len() < at {
-        return Part::Missing;
-    }
-    part_of(list.len(), template::read::read(list, at, b"answer #\n", 1))
-}
-
-fn is_same(a: &[u8], b: &[u8]) -> bool {
-    if a.len() != b.len() {
-        return false;
-    }
-    for i in 0..a.len() {
-        if a[i] != b[i] {
-            return false;
-        }
-    }
-    true
+// A request, its stored answer, and the records after it.
+fn record(list: &[u8]) -> Option<(&[u8], &[u8], &[u8])> {
+    let (request, rest) = part(list, b"request #\n")?;
+    let (stored, rest) = part(rest, b"answer #\n")?;
+    Some((request, stored, rest))
 }
 
 fn is_answered(request: &[u8], stored: &[u8]) -> bool {
-    let mut out = [0u8; 512];
+    let mut out = [0; 512];
     let m = text::answer(request, &mut out);
-    is_same(&out[..m], stored)
-}
-
-fn run_at(list: &[u8], at: usize) -> Outcome {
-    let Part::Bytes(start, end) = request_at(list, at) else {
-        return Outcome::Broken;
-    };
-    let Part::Bytes(first, last) = answer_at(list, end) else {
-        return Outcome::Broken;
-    };
-    if end < start {
-        return Outcome::Broken;
-    }
-    if last < first {
-        return Outcome::Broken;
-    }
-    if list.len() < end {
-        return Outcome::Broken;
-    }
-    if list.len() < last {
-        return Outcome::Broken;
-    }
-    if is_answered(&list[start..end], &list[first..last]) {
-        return Outcome::Same(last);
-    }
-    Outcome::Differs(last)
+    &out[..m] == stored
 }
 
 fn say(number: u64, what: &[u8]) {
@@ -107,23 +43,20 @@ fn say(number: u64, what: &[u8]) {
 
 // A record has bytes, so there are fewer records than bytes.
 fn replay(list: &[u8]) {
-    let mut at: usize = 0;
+    let mut rest = list;
     for n in 0..list.len() {
-        if list.len() <= at {
+        if rest.is_empty() {
             say(n as u64, b" answers\n");
             return;
         }
-        match run_at(list, at) {
-            Outcome::Same(next) => at = next,
-            Outcome::Differs(next) => {
-                say(n as u64, b" differs\n");
-                at = next;
-            }
-            Outcome::Broken => {
-                say(n as u64, b" is broken\n");
-                return;
-            }
+        let Some((request, stored, after)) = record(rest) else {
+            say(n as u64, b" is broken\n");
+            return;
+        };
+        if !is_answered(request, stored) {
+            say(n as u64, b" differs\n");
         }
+        rest = after;
     }
 }
 

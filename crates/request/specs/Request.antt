@@ -7,6 +7,7 @@ use Rattle.num.specs.Helpers.{is_finite_of, powi_of}
 use Rattle.litters.specs.Valid.{valid_litters_of}
 use Rattle.litters.specs.Groups.{of_group_of}
 use Rattle.request.specs.declared.Bounds.{Bounds}
+use Rattle.request.specs.declared.Range.{Range}
 use Rattle.request.specs.declared.Request.{Request}
 
 -- A request of its numbers: twelve bounds, low, high and start of both means, then of both SDs; the tolerance; the limits.
@@ -34,6 +35,10 @@ valid_mean_of low high start = finite_three_of low high start && (is_boxed_of lo
 -- the squared bounds have to increase too
 unfoldable pub valid_sd_of : Float → Float → Float → Bool
 valid_sd_of low high start = finite_three_of low high start && (is_boxed_of low high start && (le zero· low && (le high three· && lt (low ⊗ low) (high ⊗ high))))
+
+-- one group's, as code has it
+abbrev pub range_of : Bounds → ℕ → Range
+range_of b i = record { low = get_or b.low i nan; high = get_or b.high i nan; start = get_or b.start i nan }
 
 -- of both groups
 unfoldable pub valid_means_of : Bounds → Bool

@@ -1,8 +1,8 @@
 // A fit's request, and what it has to satisfy.
 #![tactic(auto)]
 
-ghost use Rattle.std.specs.Prelude.{◌≡◌, length};
-ghost use Rattle.request.specs.Request.{request_of, finite_three_of, is_boxed_of, valid_mean_of, valid_sd_of, valid_means_of, valid_sds_of, valid_boxes_of, up_to_of, valid_controls_of, two_each_of, admitted_of, start_of, low_of, high_of};
+ghost use Rattle.std.specs.Prelude.{◌≡◌, ◌<◌, length};
+ghost use Rattle.request.specs.Request.{request_of, finite_three_of, is_boxed_of, valid_mean_of, valid_sd_of, valid_means_of, valid_sds_of, range_of, up_to_of, valid_controls_of, two_each_of, admitted_of, start_of, low_of, high_of};
 
 use work::{FitEvaluations, Iterations, QuadratureEvaluations};
 
@@ -54,61 +54,81 @@ pub fn requested(
     }
 }
 
-fn finite_three(a: f64, b: f64, c: f64) -> bool
-    ensures { result ≡ finite_three_of a b c }
-{
-    num::both(
-        num::is_finite(a),
-        num::both(num::is_finite(b), num::is_finite(c)),
-    )
+// One group's bounds and start.
+#[derive(Clone, Copy)]
+struct Range {
+    low: f64,
+    high: f64,
+    start: f64,
 }
 
-fn is_boxed(low: f64, high: f64, start: f64) -> bool
-    ensures { result ≡ is_boxed_of low high start }
-{
-    num::both(low < high, num::both(low <= start, start <= high))
+impl Range {
+    fn is_finite(self) -> bool
+        ensures { result ≡ finite_three_of self.low self.high self.start }
+    {
+        num::both(
+            num::is_finite(self.low),
+            num::both(num::is_finite(self.high), num::is_finite(self.start)),
+        )
+    }
+
+    // Bounds that increase, with the start inside, ends included.
+    fn is_boxed(self) -> bool
+        ensures { result ≡ is_boxed_of self.low self.high self.start }
+    {
+        num::both(
+            self.low < self.high,
+            num::both(self.low <= self.start, self.start <= self.high),
+        )
+    }
+
+    #[tactic(auto, unfolding(crate::specs::Request::valid_mean_of))]
+    fn is_mean(self) -> bool
+        ensures { result ≡ valid_mean_of self.low self.high self.start }
+    {
+        let within = num::both(-8.0 <= self.low, self.high <= 8.0);
+        num::both(self.is_finite(), num::both(self.is_boxed(), within))
+    }
+
+    #[tactic(auto, unfolding(crate::specs::Request::valid_sd_of))]
+    fn is_sd(self) -> bool
+        ensures { result ≡ valid_sd_of self.low self.high self.start }
+    {
+        let low = self.low;
+        let high = self.high;
+        let apart = num::both(high <= 3.0, low * low < high * high);
+        num::both(
+            self.is_finite(),
+            num::both(self.is_boxed(), num::both(0.0 <= low, apart)),
+        )
+    }
 }
 
-fn valid_mean(low: f64, high: f64, start: f64) -> bool
-    ensures { result ≡ valid_mean_of low high start }
-{
-    let finite = finite_three(low, high, start);
-    let inside = is_boxed(low, high, start);
-    num::both(
-        finite,
-        num::both(inside, num::both(-8.0 <= low, high <= 8.0)),
-    )
-}
+impl Bounds {
+    fn of_group(self, i: usize) -> Range
+        requires { i < 2 }
+        ensures { result ≡ range_of self i }
+    {
+        Range {
+            low: self.low[i],
+            high: self.high[i],
+            start: self.start[i],
+        }
+    }
 
-fn valid_sd(low: f64, high: f64, start: f64) -> bool
-    ensures { result ≡ valid_sd_of low high start }
-{
-    let finite = finite_three(low, high, start);
-    let inside = is_boxed(low, high, start);
-    let apart = num::both(high <= 3.0, low * low < high * high);
-    num::both(finite, num::both(inside, num::both(0.0 <= low, apart)))
-}
+    #[tactic(auto, unfolding(crate::specs::Request::valid_means_of))]
+    fn are_means(self) -> bool
+        ensures { result ≡ valid_means_of self }
+    {
+        num::both(self.of_group(0).is_mean(), self.of_group(1).is_mean())
+    }
 
-fn valid_means(b: Bounds) -> bool
-    ensures { result ≡ valid_means_of b }
-{
-    let first = valid_mean(b.low[0], b.high[0], b.start[0]);
-    let second = valid_mean(b.low[1], b.high[1], b.start[1]);
-    num::both(first, second)
-}
-
-fn valid_sds(b: Bounds) -> bool
-    ensures { result ≡ valid_sds_of b }
-{
-    let first = valid_sd(b.low[0], b.high[0], b.start[0]);
-    let second = valid_sd(b.low[1], b.high[1], b.start[1]);
-    num::both(first, second)
-}
-
-fn valid_boxes(r: Request) -> bool
-    ensures { result ≡ valid_boxes_of r }
-{
-    num::both(valid_means(r.mean), valid_sds(r.sd))
+    #[tactic(auto, unfolding(crate::specs::Request::valid_sds_of))]
+    fn are_sds(self) -> bool
+        ensures { result ≡ valid_sds_of self }
+    {
+        num::both(self.of_group(0).is_sd(), self.of_group(1).is_sd())
+    }
 }
 
 pub fn up_to(most: u64, n: u64) -> bool
@@ -117,6 +137,7 @@ pub fn up_to(most: u64, n: u64) -> bool
     num::both(1 <= n, n <= most)
 }
 
+#[tactic(auto, unfolding(crate::specs::Request::valid_controls_of))]
 fn valid_controls(r: Request) -> bool
     ensures { result ≡ valid_controls_of r }
 {
@@ -126,6 +147,7 @@ fn valid_controls(r: Request) -> bool
     num::both(a, num::both(b, c))
 }
 
+#[tactic(auto, unfolding(crate::specs::Request::two_each_of))]
 fn two_each(litters: &[u32]) -> bool
     ensures { result ≡ two_each_of litters.now }
 {
@@ -134,10 +156,11 @@ fn two_each(litters: &[u32]) -> bool
     num::both(2 <= a, 2 <= b)
 }
 
+#[tactic(auto, unfolding(crate::specs::Request::admitted_of))]
 pub fn admitted(r: Request, litters: &[u32]) -> bool
-    ensures { (result ≡ admitted_of r litters.now) × (litters.now ≡ litters.now) }
+    ensures { result ≡ admitted_of r litters.now }
 {
-    let a = valid_boxes(r);
+    let a = num::both(r.mean.are_means(), r.sd.are_sds());
     let b = valid_controls(r);
     let c = litters::valid::valid_litters(litters);
     let d = two_each(litters);

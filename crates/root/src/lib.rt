@@ -14,16 +14,16 @@ ghost use Rattle.std.specs.Prelude.{◌≡◌, ◌<◌};
 ghost use Rattle.root.specs.Root.{IsRoot};
 ghost use Rattle.root.specs.Steps.{digits, power, root_bits_of, sqrt_of};
 
+use parts::Parts;
+
 fn root_bits(b: u64) -> u64
     requires b_nonzero { 0 < b }
     requires b_bound { b < 0x7ff0_0000_0000_0000 }
     ensures { result ≡ root_bits_of (digits b) (power b) }
 {
-    let x = crate::parts::parts_of(b);
-    let m = crate::parts::radicand(x.digits, x.power);
-    let root = crate::pencil::root_of(m);
-    let kept = crate::parts::rounded(root);
-    crate::parts::packed(x.power / 2, kept)
+    let x = Parts::of(b);
+    let root = pencil::root_of(x.radicand());
+    parts::packed(x.power / 2, parts::rounded(root))
 }
 
 // Only a positive finite x is taken to its bits; a zero is its own root.
@@ -32,7 +32,7 @@ pub fn sqrt(x: f64) -> f64
     ensures nearest { IsRoot x result }
 {
     if 0.0 < x {
-        if x < f64::from_bits(0x7ff0_0000_0000_0000) {
+        if x < f64::INFINITY {
             let b = f64::to_bits(x);
             return f64::from_bits(root_bits(b));
         }

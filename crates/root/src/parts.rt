@@ -9,31 +9,37 @@ pub struct Parts {
     pub power: u64,
 }
 
-// A subnormal's field stands for the same exponent as a 1. Its digits are brought up until 11 zeros lead, each place for one off the field.
-pub fn parts_of(b: u64) -> Parts
-    requires { 0 < b }
-    ensures { result ≡ record { digits = digits b; power = power b } }
-{
-    let field = b / 0x10_0000_0000_0000;
-    if field == 0 {
-        let up = u64::leading_zeros(b) - 11;
-        return Parts {
-            digits: b << up,
-            power: 1 + 1023 - up as u64,
-        };
+impl Parts {
+    // A subnormal's field stands for the same exponent as a 1. Its digits are brought up until 11 zeros lead, each place for one off the field.
+    pub fn of(b: u64) -> Parts
+        requires { 0 < b }
+        ensures { result ≡ record { digits = digits b; power = power b } }
+    {
+        let field = b / 0x10_0000_0000_0000;
+        if field == 0 {
+            let up = u64::leading_zeros(b) - 11;
+            return Parts {
+                digits: b << up,
+                power: 1 + 1023 - u64::from(up),
+            };
+        }
+        Parts {
+            digits: 0x10_0000_0000_0000 + b % 0x10_0000_0000_0000,
+            power: field + 1023,
+        }
     }
-    Parts {
-        digits: 0x10_0000_0000_0000 + b % 0x10_0000_0000_0000,
-        power: field + 1023,
-    }
-}
 
-// What stands under the root sign: an odd power leaves a factor 2 to the digits.
-pub fn radicand(digits: u64, power: u64) -> u64
-    requires { digits < 2 ^ 53 }
-    ensures { result ≡ radicand_of digits power }
-{
-    if power % 2 == 1 { 2 * digits } else { digits }
+    // What stands under the root sign: an odd power leaves a factor 2 to the digits.
+    pub fn radicand(self) -> u64
+        requires { self.digits < 2 ^ 53 }
+        ensures { result ≡ radicand_of self.digits self.power }
+    {
+        if self.power % 2 == 1 {
+            2 * self.digits
+        } else {
+            self.digits
+        }
+    }
 }
 
 // The last digit is dropped; where it is 1, the others go up by one.

@@ -1,5 +1,5 @@
 // The root of a whole number, drawn as on paper. A step writes one row of the table, and the root gets one digit.
-ghost use Rattle.std.specs.Prelude.{◌≡◌, cond, ◌*◌, ◌^◌, ◌≤◌, ◌<◌};
+ghost use Rattle.std.specs.Prelude.{◌≡◌, ◌*◌, ◌^◌, ◌≤◌, ◌<◌};
 ghost use Rattle.root.specs.Steps.{start_of, step_of, pencil_of};
 
 // `coming` has 54 digits, the next two to bring down on top.
@@ -12,19 +12,6 @@ pub struct Row {
     pub digit: u64,
     pub rest: u64,
     pub root: u64,
-}
-
-// The digit of a step, and what it takes away: a choice as a call leaves no place where ways meet, and no jump in the loop.
-pub fn digit_of(goes: bool) -> u64
-    ensures { (result ≡ cond goes 1 0) × (result ≤ 1) }
-{
-    if goes { 1 } else { 0 }
-}
-
-pub fn taken_of(goes: bool, trial: u64) -> u64
-    ensures { result ≡ cond goes trial 0 }
-{
-    if goes { trial } else { 0 }
 }
 
 // Before the first step.
@@ -43,15 +30,17 @@ pub fn start(m: u64) -> Row
 }
 
 pub fn step(row: Row) -> Row
-    requires { (row.coming < 2 ^ 54) × (row.rest ≤ 2 * row.root) × (row.root < 2 ^ 54) }
+    requires coming_fits { row.coming < 2 ^ 54 }
+    requires rest_small { row.rest ≤ 2 * row.root }
+    requires root_fits { row.root < 2 ^ 54 }
     ensures { result ≡ step_of row }
 {
     let down = row.coming / 0x10_0000_0000_0000;
     let brought = 4 * row.rest + down;
     let trial = 4 * row.root + 1;
     let goes = trial <= brought;
-    let digit = digit_of(goes);
-    let taken = taken_of(goes, trial);
+    let digit = u64::from(goes);
+    let taken = if goes { trial } else { 0 };
     Row {
         coming: row.coming % 0x10_0000_0000_0000 * 4,
         down,

@@ -4,82 +4,40 @@
 mod say;
 mod table;
 
-ghost use Rattle.std.specs.Prelude.{◌≤◌};
+ghost use Rattle.std.specs.Prelude.{◌≤◌, length, IfOk, IfSome};
+
+use std::io::{Error, ErrorKind, Read};
 
 // The file descriptor of standard error.
 const STDERR: i32 = 2;
 
-// The bits of an f64, or none.
-#[derive(Clone, Copy)]
-enum Number {
-    Bits(u64),
-    Missing,
-}
-
-// A line of so many bytes, no line more, or a reading that failed.
-#[derive(Clone, Copy)]
-enum Line {
-    Of(usize),
-    End,
-    Failed,
-}
-
-// The whole line is one number, as the template's hole for the bits of an f64 reads it.
-fn number_of(line: &[u8]) -> Number {
-    let r = template::read::read(line, 0, b"%", 1);
-    let at = r.at;
-    let v = r.values;
-    if !r.fits {
-        return Number::Missing;
+// The whole line is one number, as a template's hole for the bits of an f64 reads it.
+fn number_of(line: &[u8]) -> Option<u64> {
+    match template::value::read_value(line) {
+        Some((bits, [])) => Some(bits),
+        _ => None,
     }
-    if at != line.len() {
-        return Number::Missing;
-    }
-    Number::Bits(v[0])
 }
 
-fn least(a: usize, b: usize) -> usize
-    ensures { (result ≤ a) × (result ≤ b) }
+// How many bytes the next line has, or no line where the input has ended. No number is as long as the buffer: bytes past it need not be kept.
+fn read_line<R: Read>(from: &mut R, line: &mut [u8]) -> std::io::Result<Option<usize>>
+    ensures { IfOk result (λ o. IfSome o (λ n. n ≤ length line.new)) }
 {
-    if a < b { a } else { b }
-}
-
-fn first_of(bytes: &[u8]) -> u8 {
-    if bytes.len() == 0 {
-        return 0;
-    }
-    bytes[0]
-}
-
-// No number is as long as the buffer: bytes past it need not be kept.
-fn kept(line: &mut [u8], n: usize, c: u8) -> usize {
-    if line.len() <= n {
-        return n;
-    }
-    line[n] = c;
-    n + 1
-}
-
-fn read_line<R: std::io::Read>(from: &mut R, line: &mut [u8]) -> Line {
-    let mut n: usize = 0;
-    for _ in 0..18446744073709551615u64 {
-        let mut byte = [0u8; 1];
-        let Ok(got) = from.read(&mut byte) else {
-            return Line::Failed;
-        };
-        if got == 0 {
-            if n == 0 {
-                return Line::End;
-            }
-            return Line::Of(n);
+    let mut n = 0;
+    for _ in 0..u64::MAX {
+        let mut byte = [0; 1];
+        if from.read(&mut byte)? == 0 {
+            return if n == 0 { Ok(None) } else { Ok(Some(n)) };
         }
-        let c = first_of(&byte);
-        if c == 10 {
-            return Line::Of(n);
+        if byte[0] == b'\n' {
+            return Ok(Some(n));
         }
-        n = kept(line, n, c);
+        if n < line.len() {
+            line[n] = byte[0];
+            n += 1;
+        }
     }
-    Line::Failed
+    Err(Error::from(ErrorKind::Other))
 }
 
 // Bits from 1 up and below those of infinity are a positive finite f64's.
@@ -104,26 +62,25 @@ fn answer_bits(b: u64) {
     crate::say::words(b"below zero, where the root is not a number\n");
 }
 
-fn answer(number: u64, line: &[u8], n: usize) {
-    let end = least(n, line.len());
+fn answer(number: u64, line: &[u8]) {
     crate::say::line(number);
-    match number_of(&line[..end]) {
-        Number::Bits(b) => {
+    match number_of(line) {
+        Some(b) => {
             crate::say::hex(b": ", b);
             answer_bits(b);
         }
-        Number::Missing => crate::say::words(b": no decimal and no 16 hex digits\n"),
+        None => crate::say::words(b": no decimal and no 16 hex digits\n"),
     }
 }
 
 fn main(rt: HostRuntime) {
     let mut input = rt.stdin();
-    let mut line = [0u8; 64];
-    for number in 1..18446744073709551615u64 {
+    let mut line = [0; 64];
+    for number in 1..u64::MAX {
         match read_line(&mut input, &mut line) {
-            Line::Of(n) => answer(number, &line, n),
-            Line::End => return,
-            Line::Failed => {
+            Ok(Some(n)) => answer(number, &line[..n]),
+            Ok(None) => return,
+            Err(_) => {
                 io::write_all(STDERR, b"root_steps: standard input could not be read\n");
                 return;
             }

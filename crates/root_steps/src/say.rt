@@ -1,6 +1,4 @@
 // The lines of a table.
-ghost use Rattle.std.specs.Prelude.{◌≤◌};
-
 use root::pencil::Row;
 
 // The file descriptor of standard output.
@@ -27,20 +25,13 @@ fn named(name: &[u8], n: u64) {
     words(b"\n");
 }
 
-fn at_most_18(n: usize) -> usize
-    ensures { result ≤ 18 }
-{
-    if n < 18 { n } else { 18 }
-}
-
 // A column of 18 places and two before it. What a row holds has 18 digits at most.
 fn column(n: u64) {
     let mut text = [0u8; 20];
     let k = io::decimal(n, &mut text);
-    let before = [32u8; 18];
-    let from = at_most_18(k);
+    let before = [b' '; 18];
     words(b"  ");
-    words(&before[from..]);
+    words(&before[k.min(18)..]);
     words(&text[..k]);
 }
 

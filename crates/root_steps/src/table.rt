@@ -20,8 +20,8 @@ pub fn drawn(b: u64) -> u64
     requires b_bound { b < 0x7ff0_0000_0000_0000 }
     ensures { result ≡ root_bits_of (digits b) (power b) }
 {
-    let x = root::parts::parts_of(b);
-    let m = root::parts::radicand(x.digits, x.power);
+    let x = root::parts::Parts::of(b);
+    let m = x.radicand();
     crate::say::head(x.digits, x.power, m);
     let found = drawn_steps(m);
     let kept = root::parts::rounded(found);

@@ -1,26 +1,29 @@
 -- How many evaluations a litter's share makes at most, whatever their values: `AtMost k w` says that w never makes more than k.
 -- From it: the source's cap of 65,536 evaluations a litter never binds, and the count that the code reports is that of the evaluations made.
-use Rattle.std.specs.Prelude.{◌≡◌, refl, List, length, Float}
+use Rattle.std.specs.Prelude.{◌≡◌, refl, List, length, Err, Float}
 use Rattle.std.proofs.Common.{◌∙◌, arith}
 use Rattle.std.proofs.Math.Path.{ap}
 use Prim.Native.Nat.{ℕ, ◌+◌, ◌≤◌, min, zero-le}
 use Rattle.std.proofs.Math.Nat.{zero-add, sub-zero}
 use Rattle.std.specs.Float.Ieee.{eq}
 use Rattle.num.specs.F64.{zero·}
-use Rattle.work.specs.declared.Ending.TheVariants.{WorkBudget}
+use Rattle.work.specs.declared.Refusal.TheVariants.{WorkBudget}
 use Rattle.work.specs.declared.QuadratureEvaluations.{QuadratureEvaluations}
-use Rattle.work.specs.Ended.{Ended, done, stopped, short, end_of, invalid, domain}
-use Rattle.work.specs.Work.{◌>>=◌, metered, listed, listed_l, told}
+use Rattle.work.specs.Ended.{Ended, done, stopped, short, invalid, domain}
+use Rattle.work.specs.Work.{◌>>=◌, metered, listed, listed_l}
 use Rattle.work.specs.Metered.{metered_is, within, short_at}
 use Rattle.work.specs.AtMost.{AtMost, rets, asks, either, both, at_most_listed}
+use Rattle.work.specs.Answer.{outcome, by}
+use Rattle.work.specs.Impossible.{impossible}
 use Rattle.work.specs.Share.{cap}
 use Rattle.legendre.specs.declared.Pair.{Pair}
+use Rattle.posterior.specs.declared.integrand.Posterior.{Posterior}
 use Rattle.posterior.specs.Integrand.{Eval, at}
 use Rattle.mode.specs.Bound.{ends_at_most, check_ends_at_most, peak_at_most}
 use Rattle.tail.specs.Bound.{goal_at_most, span_at_most}
 use Rattle.quadrature.specs.Bound.{ten_at_most}
 use Rattle.row.specs.Peak.{peaked, spanned}
-use Rattle.row.specs.Share.{spread, share, no_share, to_row, row_objective_of}
+use Rattle.row.specs.Share.{spread, share, row_of, row_used}
 
 module _ (here : Float → Eval) where
   -- the mode, with its bracket: 32 + 2 + 101
@@ -29,27 +32,27 @@ module _ (here : Float → Eval) where
   peaked_at_most = both 103 (ends_at_most here) (λ e. both 101 (check_ends_at_most here e) (λ c. peak_at_most here c.left c.right))
 
   -- the limits of the integral: 2 + 60
-  pub spanned_at_most : (total : ℕ) (mean sd mode log delta : Float) → AtMost 62 (spanned here total mean sd mode log delta)
+  pub spanned_at_most : (p : Posterior) (mode log delta : Float) → AtMost 62 (spanned here p mode log delta)
   unfolding spanned
-  spanned_at_most total mean sd mode log delta = both 60 (goal_at_most here mode log delta) (λ g. span_at_most here _)
+  spanned_at_most p mode log delta = both 60 (goal_at_most here mode log delta) (λ g. span_at_most here _)
 
   -- the share where the variance is not 0: 135 + 62 + 32736
-  pub spread_at_most : (rule : List Pair) (total : ℕ) (mean sd choose : Float) → AtMost (197 + 32736) (spread here rule total mean sd choose)
+  pub spread_at_most : (rule : List Pair) (p : Posterior) (choose : Float) → AtMost (197 + 32736) (spread here rule p choose)
   unfolding spread
-  spread_at_most rule total mean sd choose =
-      both 32798 peaked_at_most (λ m. both 32736 (spanned_at_most total mean sd m.at m.log _) (λ s. both 0 (ten_at_most here rule _) (λ i. rets)))
+  spread_at_most rule p choose =
+      both 32798 peaked_at_most (λ m. both 32736 (spanned_at_most p m.at m.log _) (λ s. both 0 (ten_at_most here rule _) (λ i. rets)))
 
-is_short : {A : Type 0} (e : Ended A) → end_of e ≡ WorkBudget → e ≡ short
-is_short (done a) h = cc
-is_short (stopped invalid) h = cc
-is_short (stopped (domain r)) h = cc
+is_short : {A : Type 0} (e : Ended A) → outcome e ≡ Err WorkBudget → e ≡ short
+is_short (done a) h = impossible (cc)
+is_short (stopped invalid) h = impossible (cc)
+is_short (stopped (domain r)) h = impossible (cc)
 is_short short h = refl
 
 module _ (litter successes total : ℕ) (rule : List Pair) (mean variance : Float) where
   -- a litter's share makes at most 32,933 evaluations, whatever their values
   pub share_at_most : AtMost 32933 (share litter successes total rule mean variance)
   unfolding share ◌>>=◌
-  share_at_most = either (eq variance zero·) (asks (λ v. rets)) (spread_at_most _ rule total mean _ _)
+  share_at_most = either (eq variance zero·) (asks (λ v. rets)) (spread_at_most _ rule _ _)
 
   -- the list of them is no longer
   pub share_listed : length (listed at (share litter successes total rule mean variance)) ≤ 32933
@@ -60,27 +63,32 @@ module _ (litter successes total : ℕ) (rule : List Pair) (mean variance : Floa
   cap_never_binds l = cap at (share litter successes total rule mean variance) l 65536 share_at_most (omega arith)
 
   -- and so the row is the same, whether or not the limit is cut
-  pub row_cap : (limit : QuadratureEvaluations) → row_objective_of litter successes total rule mean variance (record { 0 = min limit.0 65536 }) ≡ row_objective_of litter successes total rule mean variance limit
-  unfolding row_objective_of
-  row_cap limit = ap (told to_row no_share) (cap_never_binds limit.0)
+  pub row_cap : (limit : QuadratureEvaluations) → row_of litter successes total rule mean variance (record { 0 = min limit.0 65536 }) ≡ row_of litter successes total rule mean variance limit
+  unfolding by
+  row_cap limit = ap (λ m. outcome m.ended) (cap_never_binds limit.0)
 
-  -- the count that the code reports is the length of the list of evaluations made under its limit
-  pub row_count : (limit : QuadratureEvaluations) → (row_objective_of litter successes total rule mean variance limit).used.0 ≡ length (listed_l at limit.0 (share litter successes total rule mean variance))
-  unfolding row_objective_of
+  pub row_cap_used : (limit : QuadratureEvaluations) → row_used litter successes total rule mean variance (record { 0 = min limit.0 65536 }) ≡ row_used litter successes total rule mean variance limit
+  unfolding by
+  row_cap_used limit = ap (λ m. m.used) (cap_never_binds limit.0)
+
+  -- the count that the code leaves on the meter is the length of the list of evaluations made under its limit
+  pub row_count : (limit : QuadratureEvaluations) → row_used litter successes total rule mean variance limit ≡ length (listed_l at limit.0 (share litter successes total rule mean variance))
+  unfolding by
   row_count limit =
       let w = share litter successes total rule mean variance in
       ap (λ m. m.used) (metered_is at limit.0 0 w) ∙ rw (sub-zero limit.0, zero-add (length (listed_l at limit.0 w)))
 
   -- it is never above the limit, nor above 32,933
-  pub row_within : (limit : QuadratureEvaluations) → (row_objective_of litter successes total rule mean variance limit).used.0 ≤ min limit.0 32933
-  unfolding row_objective_of
+  pub row_within : (limit : QuadratureEvaluations) → row_used litter successes total rule mean variance limit ≤ min limit.0 32933
+  unfolding by
   row_within limit =
       let w = share litter successes total rule mean variance in
-      rw (← cap at w limit.0 32933 share_at_most (omega arith)) (within at (min limit.0 32933) 0 w zero-le)
+      let h : (metered at limit.0 0 w).used ≤ min limit.0 32933 = rw (← cap at w limit.0 32933 share_at_most (omega arith)) (within at (min limit.0 32933) 0 w zero-le) in
+      h
 
-  -- where the code reports WorkBudget, it is the limit
-  pub row_short : (limit : QuadratureEvaluations) → (row_objective_of litter successes total rule mean variance limit).end ≡ WorkBudget → (row_objective_of litter successes total rule mean variance limit).used.0 ≡ limit.0
-  unfolding row_objective_of
+  -- where the code answers WorkBudget, it is the limit
+  pub row_short : (limit : QuadratureEvaluations) → row_of litter successes total rule mean variance limit ≡ Err WorkBudget → row_used litter successes total rule mean variance limit ≡ limit.0
+  unfolding by
   row_short limit e =
       let w = share litter successes total rule mean variance in
       short_at at limit.0 0 w zero-le (is_short (metered at limit.0 0 w).ended e)

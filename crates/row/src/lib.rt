@@ -4,4 +4,4 @@
 pub mod peak;
 pub mod share;
 
-pub use share::{Row, row_objective};
+pub use share::{Share, row_objective};

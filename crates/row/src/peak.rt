@@ -1,48 +1,33 @@
 // The mode of a litter's posterior, and how far out its integral is taken.
-ghost use Rattle.std.specs.Prelude.{◌≡◌};
-ghost use Rattle.row.specs.Peak.{located_of, limits_of};
+ghost use Rattle.work.specs.Answer.{Did};
+ghost use Rattle.posterior.specs.Integrand.{at, here};
+ghost use Rattle.row.specs.Peak.{peaked, spanned, scale_of};
 
 use mode::Mode;
-use posterior::flanks::Flanks;
 use posterior::integrand::Posterior;
+use posterior::side::Ends;
 use tail::Hill;
+use work::{Meter, Refusal};
 
-pub fn located(p: Posterior) -> Mode
-    ensures { result ≡ located_of p }
+pub fn located(p: Posterior, meter: &mut Meter) -> Result<Mode, Refusal>
+    ensures { Did at (peaked (here p)) meter.old result meter.new }
 {
-    let b = mode::bracket::bracket(p);
-    let end = b.end;
-    let q = b.p;
-    if work::refused(end) {
-        return mode::nothing(end, q);
-    }
-    let e = mode::bracket::check(q, b.left, b.right);
-    let end = e.end;
-    let q = e.p;
-    if work::refused(end) {
-        return mode::nothing(end, q);
-    }
-    mode::find(q, e.left, e.right)
+    let bracket = mode::bracket::bracket(p, meter)?;
+    let within = mode::bracket::check(p, bracket, meter)?;
+    mode::find(p, within, meter)
 }
 
-pub fn limits(p: Posterior, mode: f64, log: f64, curvature: f64) -> Flanks
-    ensures { result ≡ limits_of p mode log curvature }
+pub fn limits(p: Posterior, m: Mode, meter: &mut Meter) -> Result<Ends, Refusal>
+    ensures { Did at (spanned (here p) p m.at m.log (scale_of m.curvature)) meter.old result meter.new }
 {
-    let delta = 1.0 / root::sqrt(curvature);
-    let g = tail::tail_goal(p, mode, log, delta);
-    let end = g.end;
-    let q = g.p;
-    if work::refused(end) {
-        return posterior::flanks::nothing(end, q);
-    }
+    let delta = 1.0 / root::sqrt(m.curvature);
+    let goal = tail::tail_goal(p, m.at, m.log, delta, meter)?;
     let h = Hill {
-        total: q.total,
-        mean: q.mean,
-        sd: q.sd,
-        mode,
-        log,
+        p,
+        mode: m.at,
+        log: m.log,
         delta,
-        goal: g.value,
+        goal,
     };
-    tail::bounded(q, h)
+    h.bounded(meter)
 }

@@ -1,16 +1,18 @@
 -- A bowl as a second objective. It asks for no evaluations.
-use Rattle.std.specs.Prelude.{◌≡◌, cond, List, [], ◌∷◌, ℕ, ◌-◌, get_or, Float}
+use Rattle.std.specs.Prelude.{◌≡◌, cond, List, [], ◌∷◌, ℕ, get_or, Float, None, Result, Ok, Err}
+use Rattle.std.proofs.Common.{zero-le}
 use Rattle.std.specs.Float.{nan}
 use Rattle.num.specs.F64.{◌⊕◌, ◌⊖◌, ◌⊗◌, zero·, one·, two·}
 use Rattle.num.specs.Helpers.{is_finite_of}
-use Rattle.work.specs.declared.Ending.TheVariants.{Answered, Domain}
+use Rattle.work.specs.declared.Refusal.TheVariants.{Domain}
 use Rattle.work.specs.Ended.{domain}
 use Rattle.work.specs.Work.{Work, ret, stop, metered}
 use Rattle.work.specs.Metered.{split}
 use Rattle.value.specs.declared.Totals.{Totals}
-use Rattle.value.specs.Totals.{no_totals}
-use Rattle.course.specs.Drives.{Valued}
-use Rattle.second.specs.declared.Value.{Value}
+use Rattle.course.specs.declared.NoValue.{NoValue}
+use Rattle.course.specs.declared.Answer.{Answer}
+use Rattle.course.specs.Course.{answer_in}
+use Rattle.course.specs.Drives.{Lawful}
 
 abbrev pub at : ℕ → ℕ
 at n = n
@@ -37,11 +39,15 @@ bowl x =
 unfoldable pub bowl_at : List Float → Work ℕ ℕ Totals
 bowl_at x = cond (is_finite_of (height x)) (ret (bowl x)) (stop (domain 6))
 
-unfoldable pub bowl_at_of : List Float → Value
-bowl_at_of x = cond (is_finite_of (height x)) (record { end = Answered; used = 0; v = bowl x }) (record { end = Domain 6; used = 0; v = no_totals })
+unfoldable pub bowl_at_of : List Float → Result Totals NoValue
+bowl_at_of x = cond (is_finite_of (height x)) (Ok (bowl x)) (Err (record { refusal = Domain 6; part = None }))
 
-pub valued : (l used : ℕ) (x : List Float) (o : Value) → o ≡ bowl_at_of x → Valued at bowl_at l x used o.end o.used o.v
+abbrev pub bowl_answer : ℕ → List Float → Answer
+bowl_answer l x = record { used = 0; value = bowl_at_of x }
+
+pub bowl_is : (l : ℕ) (x : List Float) → bowl_answer l x ≡ answer_in (metered at l 0 (bowl_at x)) None
 unfolding bowl_at_of bowl_at metered
-valued l used x o e =
-    rw e
-    (split (is_finite_of (height x)) (λ t. record { ending = rw t; counts = rw t; value = rw t }) (λ t. record { ending = rw t; counts = rw t; value = rw t }))
+bowl_is l x = split (is_finite_of (height x)) (λ t. rw t) (λ t. rw t)
+
+pub bowl_laws : {O : Type 0} → Lawful {O = O} (λ o l x. bowl_answer l x) (λ o l. Unit {0}) (λ o p l s u. Unit {0})
+bowl_laws = record { within = λ o l x r. zero-le; allows = λ o p l s u k t. tt; keeps = λ o p l s u c k t y. tt }

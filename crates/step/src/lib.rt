@@ -4,6 +4,13 @@
 ghost use Rattle.std.specs.Prelude.{◌≡◌, ◌<◌};
 ghost use Rattle.step.specs.Step.{project_at_of, project_of, norm_of, damping_of, newton_of, held_of, alone_of, group_step_of, finite_four_of, dot_of, safe_of, direction_of, candidate_of, slope_of, still_of};
 
+// The box of a descent: the lowest and the highest value of each coordinate.
+#[derive(Clone, Copy)]
+pub struct Region {
+    pub lo: [f64; 4],
+    pub hi: [f64; 4],
+}
+
 // A group's step.
 #[derive(Clone, Copy)]
 pub struct Move {
@@ -23,16 +30,7 @@ fn project_at(x: f64, g: f64, lo: f64, hi: f64) -> f64
     g
 }
 
-pub fn project(x: [f64; 4], g: [f64; 4], lo: [f64; 4], hi: [f64; 4]) -> [f64; 4]
-    ensures { result ≡ project_of x g lo hi }
-{
-    let a = project_at(x[0], g[0], lo[0], hi[0]);
-    let b = project_at(x[1], g[1], lo[1], hi[1]);
-    let c = project_at(x[2], g[2], lo[2], hi[2]);
-    let d = project_at(x[3], g[3], lo[3], hi[3]);
-    [a, b, c, d]
-}
-
+#[tactic(auto, unfolding(crate::specs::Step::norm_of))]
 pub fn norm(g: [f64; 4]) -> f64
     ensures { result ≡ norm_of g }
 {
@@ -42,6 +40,7 @@ pub fn norm(g: [f64; 4]) -> f64
     num::max(c, num::abs(g[3]))
 }
 
+#[tactic(auto, unfolding(crate::specs::Step::damping_of))]
 fn damping(a: f64, b: f64, c: f64) -> f64
     ensures { result ≡ damping_of a b c }
 {
@@ -50,6 +49,7 @@ fn damping(a: f64, b: f64, c: f64) -> f64
     num::max(1e-6 * (1.0 + large) - smallest, 0.0)
 }
 
+#[tactic(auto, unfolding(crate::specs::Step::newton_of))]
 fn newton(a: f64, b: f64, c: f64, g: f64, h: f64) -> Move
     ensures { result ≡ newton_of a b c g h }
 {
@@ -75,6 +75,7 @@ fn held(x: f64, g: f64, lo: f64, hi: f64) -> bool
     num::both(g == 0.0, num::either(x == lo, x == hi))
 }
 
+#[tactic(auto, unfolding(crate::specs::Step::alone_of))]
 fn alone(first: bool, second: bool, a: f64, b: f64, g: f64, h: f64, m: Move) -> Move
     ensures { result ≡ alone_of first second a b g h m }
 {
@@ -93,28 +94,6 @@ fn alone(first: bool, second: bool, a: f64, b: f64, g: f64, h: f64, m: Move) -> 
     m
 }
 
-fn group_step(
-    x: [f64; 4],
-    g: [f64; 4],
-    hessian: [f64; 16],
-    lo: [f64; 4],
-    hi: [f64; 4],
-    i: usize,
-) -> Move
-    requires { i < 2 }
-    ensures { result ≡ group_step_of x g hessian lo hi i }
-{
-    let j = i + 2;
-    let k = 5 * i;
-    let a = hessian[k];
-    let b = hessian[k + 10];
-    let c = hessian[k + 2];
-    let first = held(x[i], g[i], lo[i], hi[i]);
-    let second = held(x[j], g[j], lo[j], hi[j]);
-    let m = newton(a, b, c, g[i], g[j]);
-    alone(first, second, a, b, g[i], g[j], m)
-}
-
 fn finite_four(d: [f64; 4]) -> bool
     ensures { result ≡ finite_four_of d }
 {
@@ -125,9 +104,10 @@ fn finite_four(d: [f64; 4]) -> bool
 fn dot(g: [f64; 4], d: [f64; 4]) -> f64
     ensures { result ≡ dot_of g d }
 {
-    num::sum_of_four(g[0] * d[0], g[1] * d[1], g[2] * d[2], g[3] * d[3])
+    num::sum(&[g[0] * d[0], g[1] * d[1], g[2] * d[2], g[3] * d[3]])
 }
 
+#[tactic(auto, unfolding(crate::specs::Step::safe_of))]
 fn safe(g: [f64; 4], d: [f64; 4]) -> [f64; 4]
     ensures { result ≡ safe_of g d }
 {
@@ -138,30 +118,55 @@ fn safe(g: [f64; 4], d: [f64; 4]) -> [f64; 4]
     d
 }
 
-pub fn direction(
-    x: [f64; 4],
-    g: [f64; 4],
-    hessian: [f64; 16],
-    lo: [f64; 4],
-    hi: [f64; 4],
-) -> [f64; 4]
-    ensures { result ≡ direction_of x g hessian lo hi }
-{
-    let a = group_step(x, g, hessian, lo, hi, 0);
-    let b = group_step(x, g, hessian, lo, hi, 1);
-    safe(g, [a.mean, b.mean, a.variance, b.variance])
+impl Region {
+    #[tactic(auto, unfolding(crate::specs::Step::project_of))]
+    pub fn project(self, x: [f64; 4], g: [f64; 4]) -> [f64; 4]
+        ensures { result ≡ project_of x g self.lo self.hi }
+    {
+        let a = project_at(x[0], g[0], self.lo[0], self.hi[0]);
+        let b = project_at(x[1], g[1], self.lo[1], self.hi[1]);
+        let c = project_at(x[2], g[2], self.lo[2], self.hi[2]);
+        let d = project_at(x[3], g[3], self.lo[3], self.hi[3]);
+        [a, b, c, d]
+    }
+
+    fn group_step(self, x: [f64; 4], g: [f64; 4], hessian: [f64; 16], i: usize) -> Move
+        requires { i < 2 }
+        ensures { result ≡ group_step_of x g hessian self.lo self.hi i }
+    {
+        let j = i + 2;
+        let k = 5 * i;
+        let a = hessian[k];
+        let b = hessian[k + 10];
+        let c = hessian[k + 2];
+        let first = held(x[i], g[i], self.lo[i], self.hi[i]);
+        let second = held(x[j], g[j], self.lo[j], self.hi[j]);
+        let m = newton(a, b, c, g[i], g[j]);
+        alone(first, second, a, b, g[i], g[j], m)
+    }
+
+    #[tactic(auto, unfolding(crate::specs::Step::direction_of))]
+    pub fn direction(self, x: [f64; 4], g: [f64; 4], hessian: [f64; 16]) -> [f64; 4]
+        ensures { result ≡ direction_of x g hessian self.lo self.hi }
+    {
+        let a = self.group_step(x, g, hessian, 0);
+        let b = self.group_step(x, g, hessian, 1);
+        safe(g, [a.mean, b.mean, a.variance, b.variance])
+    }
+
+    #[tactic(auto, unfolding(crate::specs::Step::candidate_of))]
+    pub fn candidate(self, x: [f64; 4], d: [f64; 4], alpha: f64) -> [f64; 4]
+        ensures { result ≡ candidate_of x d alpha self.lo self.hi }
+    {
+        let a = num::clamp(x[0] + alpha * d[0], self.lo[0], self.hi[0]);
+        let b = num::clamp(x[1] + alpha * d[1], self.lo[1], self.hi[1]);
+        let c = num::clamp(x[2] + alpha * d[2], self.lo[2], self.hi[2]);
+        let e = num::clamp(x[3] + alpha * d[3], self.lo[3], self.hi[3]);
+        [a, b, c, e]
+    }
 }
 
-pub fn candidate(x: [f64; 4], d: [f64; 4], alpha: f64, lo: [f64; 4], hi: [f64; 4]) -> [f64; 4]
-    ensures { result ≡ candidate_of x d alpha lo hi }
-{
-    let a = num::clamp(x[0] + alpha * d[0], lo[0], hi[0]);
-    let b = num::clamp(x[1] + alpha * d[1], lo[1], hi[1]);
-    let c = num::clamp(x[2] + alpha * d[2], lo[2], hi[2]);
-    let e = num::clamp(x[3] + alpha * d[3], lo[3], hi[3]);
-    [a, b, c, e]
-}
-
+#[tactic(auto, unfolding(crate::specs::Step::slope_of))]
 pub fn slope(gradient: [f64; 4], next: [f64; 4], x: [f64; 4]) -> f64
     ensures { result ≡ slope_of gradient next x }
 {
@@ -169,9 +174,10 @@ pub fn slope(gradient: [f64; 4], next: [f64; 4], x: [f64; 4]) -> f64
     let b = gradient[1] * (next[1] - x[1]);
     let c = gradient[2] * (next[2] - x[2]);
     let d = gradient[3] * (next[3] - x[3]);
-    num::sum_of_four(a, b, c, d)
+    num::sum(&[a, b, c, d])
 }
 
+#[tactic(auto, unfolding(crate::specs::Step::still_of))]
 pub fn still(next: [f64; 4], x: [f64; 4]) -> bool
     ensures { result ≡ still_of next x }
 {

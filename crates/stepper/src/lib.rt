@@ -2,29 +2,29 @@
 #![tactic(auto)]
 
 ghost use Rattle.std.specs.Prelude.{◌≡◌};
-ghost use Rattle.descent.specs.Status.{awaits_of};
-ghost use Rattle.stepper.specs.Machine.{direction_at_of, one_more_of, begin_of, over_of, failed_of, line_of, halved_of, awaiting_of, offered_of, propose_of, arrive_of, tell_of};
+ghost use Rattle.stepper.specs.Machine.{awaits_of, direction_at_of, one_more_of, begin_of, over_of, failed_of, line_of, halved_of, awaiting_of, offered_of, propose_of, arrive_of, tell_of};
 
 use descent::{Status, Trial};
-use trial::watch::{Since, Watch, noted};
+use step::Region;
+use trial::watch::Watch;
 use value::Totals;
 use work::{FitEvaluations, Iterations};
 
 // What a descent keeps to: its box, its tolerance and its limits.
 #[derive(Clone, Copy)]
 pub struct Plan {
-    pub lo: [f64; 4],
-    pub hi: [f64; 4],
+    pub region: Region,
     pub tolerance: f64,
     pub most: FitEvaluations,
     pub turns: Iterations,
 }
 
-// What is awaited: while the status is NoStatus the value at a trial, or, before it has begun, at the start.
-#[derive(Clone, Copy)]
-pub struct Phase {
-    pub status: Status,
-    pub begun: bool,
+// Awaited is the value at the start, or that at a trial; or the descent has stopped.
+#[derive(Clone, Copy, PartialEq, Eq)]
+pub enum Phase {
+    AtStart,
+    AtTrial,
+    Over(Status),
 }
 
 // The value at `next` is awaited, and the evaluations count it: a trial along `way` from x, where the value is v, at alpha, with `left` trials after it.
@@ -42,59 +42,12 @@ pub struct Stepper {
     pub watch: Watch,
 }
 
-#[derive(Clone, Copy)]
-struct Offer {
-    wants: bool,
-    state: Stepper,
-}
-
 // One more, within the most.
+#[tactic(auto, unfolding(crate::specs::Machine::one_more_of))]
 fn one_more(n: u64, most: u64) -> u64
     ensures { result ≡ one_more_of n most }
 {
     if n < most { n + 1 } else { n }
-}
-
-fn direction_at(lo: [f64; 4], hi: [f64; 4], x: [f64; 4], v: Totals) -> [f64; 4]
-    ensures { result ≡ direction_at_of lo hi x v }
-{
-    let gradient = v.gradient;
-    let hessian = v.hessian;
-    let g = step::project(x, gradient, lo, hi);
-    step::direction(x, g, hessian, lo, hi)
-}
-
-pub fn begin(x: [f64; 4], wanted: u64) -> Stepper
-    ensures { result ≡ begin_of x wanted }
-{
-    Stepper {
-        phase: Phase {
-            status: Status::NoStatus,
-            begun: false,
-        },
-        next: x,
-        x,
-        v: value::nothing(),
-        evaluations: FitEvaluations(1),
-        iterations: Iterations(0),
-        way: x,
-        alpha: 0.0,
-        left: 0,
-        watch: Watch {
-            left: wanted,
-            kept: Trial::CutOff,
-            since: Since::Arrived,
-        },
-    }
-}
-
-// Whether the value at `next` is awaited.
-pub fn awaits(s: Stepper) -> bool
-    ensures { result ≡ awaits_of s.phase.status }
-{
-    let phase = s.phase;
-    let status = phase.status;
-    descent::awaits(status)
 }
 
 // A line search from x, before its first trial.
@@ -109,10 +62,7 @@ fn line(
     ensures { result ≡ line_of way x v e.0 k.0 watch }
 {
     Stepper {
-        phase: Phase {
-            status: Status::NoStatus,
-            begun: true,
-        },
+        phase: Phase::AtTrial,
         next: x,
         x,
         v,
@@ -125,147 +75,158 @@ fn line(
     }
 }
 
-// After a trial that took no step.
-fn halved(s: Stepper, t: Trial) -> Stepper
-    ensures { result ≡ halved_of s t }
-{
-    let watch = s.watch;
-    let mut r = s;
-    r.alpha = r.alpha * 0.5;
-    r.watch = noted(watch, t);
-    r
-}
-
-fn awaiting(s: Stepper, most: u64, left: u64, next: [f64; 4]) -> Stepper
-    ensures { result ≡ awaiting_of s most left next }
-{
-    let e = s.evaluations;
-    let more = FitEvaluations(one_more(e.0, most));
-    let mut r = s;
-    r.next = next;
-    r.evaluations = more;
-    r.left = left;
-    r
-}
-
-fn over(status: Status, s: Stepper, watch: Watch) -> Stepper
-    ensures { result ≡ over_of status s watch }
-{
-    let phase = Phase {
-        status,
-        begun: true,
-    };
-    let mut r = s;
-    r.phase = phase;
-    r.watch = watch;
-    r
-}
-
-fn failed(most: FitEvaluations, e: FitEvaluations) -> Status
-    ensures { result ≡ failed_of most.0 e.0 }
-{
-    if most.0 <= e.0 {
-        return Status::EvaluationLimit;
+impl Plan {
+    fn direction_at(self, x: [f64; 4], v: Totals) -> [f64; 4]
+        ensures { result ≡ direction_at_of self.region.lo self.region.hi x v }
+    {
+        let g = self.region.project(x, v.gradient);
+        self.region.direction(x, g, v.hessian)
     }
-    Status::LineSearchFailed
-}
 
-// A trial, with n after it: it wants a value, or took no step.
-fn offered(p: Plan, s: Stepper, n: u64) -> Offer
-    ensures { result ≡ offered_of p n s }
-{
-    let lo = p.lo;
-    let hi = p.hi;
-    let x = s.x;
-    let v = s.v;
-    let way = s.way;
-    let gradient = v.gradient;
-    let next = step::candidate(x, way, s.alpha, lo, hi);
-    let slope = step::slope(gradient, next, x);
-    if num::either(0.0 <= slope, step::still(next, x)) {
-        let state = halved(s, trial::idle(slope));
-        return Offer {
-            wants: false,
-            state,
-        };
-    }
-    let state = awaiting(s, p.most.0, n, next);
-    Offer { wants: true, state }
-}
-
-// The first trial that wants a value, or the end of the search.
-fn propose(p: Plan, start: Stepper) -> Stepper
-    ensures { result ≡ propose_of p start }
-{
-    let mut s = start;
-    let mut n = start.left;
-    while 0 < n {
-        n = n - 1;
-        let most = p.most;
-        let e = s.evaluations;
-        let watch = s.watch;
-        if most.0 <= e.0 {
-            return over(failed(most, e), s, noted(watch, Trial::CutOff));
+    #[tactic(auto, unfolding(crate::specs::Machine::failed_of))]
+    fn failed(self, e: FitEvaluations) -> Status
+        ensures { result ≡ failed_of self.most.0 e.0 }
+    {
+        if self.most.0 <= e.0 {
+            return Status::EvaluationLimit;
         }
-        let o = offered(p, s, n);
-        let t = o.state;
-        if o.wants {
-            return t;
+        Status::LineSearchFailed
+    }
+
+    // A trial: the candidate whose value it wants, or a trial that took no step.
+    #[tactic(auto, unfolding(crate::specs::Machine::offered_of))]
+    fn offered(self, s: Stepper) -> Result<[f64; 4], Trial>
+        ensures { result ≡ offered_of self s }
+    {
+        let next = self.region.candidate(s.x, s.way, s.alpha);
+        let slope = step::slope(s.v.gradient, next, s.x);
+        if num::either(0.0 <= slope, step::still(next, s.x)) {
+            return Err(trial::idle(slope));
         }
-        s = t;
+        Ok(next)
     }
-    let most = p.most;
-    let e = s.evaluations;
-    let watch = s.watch;
-    over(failed(most, e), s, watch)
+
+    // The first trial that wants a value, or the end of the search.
+    fn propose(self, start: Stepper) -> Stepper
+        ensures { result ≡ propose_of self start }
+    {
+        let mut s = start;
+        for n in (0..start.left).rev() {
+            if self.most.0 <= s.evaluations.0 {
+                return s.over(self.failed(s.evaluations), s.watch.noted(Trial::CutOff));
+            }
+            match self.offered(s) {
+                Ok(next) => return s.awaiting(self.most.0, n, next),
+                Err(t) => s = s.halved(t),
+            }
+        }
+        s.over(self.failed(s.evaluations), s.watch)
+    }
+
+    // At a point with its value: the three tests at the loop's head, and a search.
+    #[tactic(auto, unfolding(crate::specs::Machine::arrive_of))]
+    fn arrive(
+        self,
+        x: [f64; 4],
+        v: Totals,
+        e: FitEvaluations,
+        k: Iterations,
+        watch: Watch,
+    ) -> Stepper
+        ensures { result ≡ arrive_of self x v e.0 k.0 watch }
+    {
+        let s = line(self.direction_at(x, v), x, v, e, k, watch);
+        let near = trial::norm_at(self.region, x, v) <= self.tolerance;
+        let spent = self.most.0 <= e.0;
+        if near {
+            return s.over(Status::Converged, watch);
+        }
+        if spent {
+            return s.over(Status::EvaluationLimit, watch);
+        }
+        if self.turns.0 <= k.0 {
+            return s.over(Status::IterationLimit, watch);
+        }
+        self.propose(s)
+    }
 }
 
-// At a point with its value: the three tests at the loop's head, and a search.
-fn arrive(
-    p: Plan,
-    x: [f64; 4],
-    v: Totals,
-    e: FitEvaluations,
-    k: Iterations,
-    watch: Watch,
-) -> Stepper
-    ensures { result ≡ arrive_of p x v e.0 k.0 watch }
-{
-    let lo = p.lo;
-    let hi = p.hi;
-    let s = line(direction_at(lo, hi, x, v), x, v, e, k, watch);
-    let near = trial::norm_at(lo, hi, x, v) <= p.tolerance;
-    if near {
-        return over(Status::Converged, s, watch);
+impl Stepper {
+    pub fn begin(x: [f64; 4], wanted: u64) -> Stepper
+        ensures { result ≡ begin_of x wanted }
+    {
+        Stepper {
+            phase: Phase::AtStart,
+            next: x,
+            x,
+            v: value::nothing(),
+            evaluations: FitEvaluations(1),
+            iterations: Iterations(0),
+            way: x,
+            alpha: 0.0,
+            left: 0,
+            watch: Watch::begun(wanted),
+        }
     }
-    if p.most.0 <= e.0 {
-        return over(Status::EvaluationLimit, s, watch);
-    }
-    if p.turns.0 <= k.0 {
-        return over(Status::IterationLimit, s, watch);
-    }
-    propose(p, s)
-}
 
-// Told the value at `next`.
-pub fn tell(p: Plan, s: Stepper, c: Totals) -> Stepper
-    ensures { result ≡ tell_of p s c }
-{
-    let next = s.next;
-    let e = s.evaluations;
-    let k = s.iterations;
-    let watch = s.watch;
-    if !s.phase.begun {
-        return arrive(p, next, c, e, k, watch);
+    // Whether the value at `next` is awaited.
+    pub fn awaits(self) -> bool
+        ensures { result ≡ awaits_of self.phase }
+    {
+        !matches!(self.phase, Phase::Over(_))
     }
-    let lo = p.lo;
-    let hi = p.hi;
-    let x = s.x;
-    let v = s.v;
-    let t = trial::judged(lo, hi, x, v, next, c);
-    if descent::taken(t) {
-        let more = Iterations(one_more(k.0, p.turns.0));
-        return arrive(p, next, c, e, more, noted(watch, t));
+
+    // After a trial that took no step.
+    fn halved(self, t: Trial) -> Stepper
+        ensures { result ≡ halved_of self t }
+    {
+        Stepper {
+            alpha: self.alpha * 0.5,
+            watch: self.watch.noted(t),
+            ..self
+        }
     }
-    propose(p, halved(s, t))
+
+    fn awaiting(self, most: u64, left: u64, next: [f64; 4]) -> Stepper
+        ensures { result ≡ awaiting_of self most left next }
+    {
+        Stepper {
+            next,
+            evaluations: FitEvaluations(one_more(self.evaluations.0, most)),
+            left,
+            ..self
+        }
+    }
+
+    fn over(self, status: Status, watch: Watch) -> Stepper
+        ensures { result ≡ over_of status self watch }
+    {
+        Stepper {
+            phase: Phase::Over(status),
+            watch,
+            ..self
+        }
+    }
+
+    // Told the value at `next`.
+    #[tactic(auto, unfolding(crate::specs::Machine::tell_of))]
+    pub fn tell(self, p: Plan, c: Totals) -> Stepper
+        ensures { result ≡ tell_of p self c }
+    {
+        let next = self.next;
+        let e = self.evaluations;
+        let k = self.iterations;
+        let watch = self.watch;
+        match self.phase {
+            Phase::AtStart => p.arrive(next, c, e, k, watch),
+            Phase::AtTrial | Phase::Over(_) => {
+                let t = trial::judged(p.region, self.x, self.v, next, c);
+                if t.is_taken() {
+                    let more = Iterations(one_more(k.0, p.turns.0));
+                    return p.arrive(next, c, e, more, watch.noted(t));
+                }
+                p.propose(self.halved(t))
+            }
+        }
+    }
 }

@@ -1,38 +1,13 @@
-// Values stored into a lent buffer from its start on, and a mark as a count.
+// Values stored into a lent buffer from its start on.
 #![tactic(auto)]
 
-ghost use Rattle.std.specs.Prelude.{◌≡◌, cond, ◌≤◌, length};
+ghost use Rattle.std.specs.Prelude.{◌≡◌, ◌≤◌, length};
 ghost use Rattle.store.specs.Stored.{stored};
 
-pub fn numbers(v: &[f64], out: &mut [f64])
-    requires { length v.now ≤ length out.old }
-    ensures { out.new ≡ stored out.old v.now }
+#[tactic(auto, unfolding(crate::specs::Stored::stored))]
+pub fn put<T: Copy>(values: &[T], out: &mut [T])
+    requires { length values.now ≤ length out.old }
+    ensures { out.new ≡ stored out.old values.now }
 {
-    for i in 0..v.len() {
-        out[i] = v[i];
-    }
-}
-
-pub fn counts(c: &[u64], out: &mut [u64])
-    requires { length c.now ≤ length out.old }
-    ensures { out.new ≡ stored out.old c.now }
-{
-    for i in 0..c.len() {
-        out[i] = c[i];
-    }
-}
-
-pub fn litters(l: &[u32], out: &mut [u32])
-    requires { length l.now ≤ length out.old }
-    ensures { out.new ≡ stored out.old l.now }
-{
-    for i in 0..l.len() {
-        out[i] = l[i];
-    }
-}
-
-pub fn mark(on: bool) -> u64
-    ensures { result ≡ cond on 1 0 }
-{
-    if on { 1 } else { 0 }
+    out[..values.len()].copy_from_slice(values);
 }

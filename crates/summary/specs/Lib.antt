@@ -1,3 +1,4 @@
 pub mod Summary
 pub mod Most
+pub mod Both
 pub mod Refused

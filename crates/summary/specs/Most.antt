@@ -16,6 +16,10 @@ pub record Most (c : GroupCounts) (m : ℕ) : Type 0 where
 abbrev pub Below : GroupCounts → ℕ → Type 0
 Below c k = Most c (0xffff_ffff * k)
 
+-- so large a count still has room for one litter more
+abbrev pub capacity : ℕ
+capacity = 0x1_0000_0000
+
 pub none_most : (m : ℕ) → Most no_counts m
 none_most m = record { litters = omega arith; successes = omega arith; trials = omega arith; extreme = omega arith }
 
@@ -48,7 +52,7 @@ module _ (asked s t g : ℕ) (c one : GroupCounts) (e : one ≡ litter_counts_of
   just_one : Most one 0xffff_ffff
   just_one = rw e (litter_most 0xffff_ffff asked s t g (omega arith) (omega arith) (omega arith))
 
-  pub adds : k < 0x1_0000_0000 → Adds c one
+  pub adds : k ≤ capacity → Adds c one
   adds h =
       let o = just_one in
       record { litters = omega arith; successes = omega arith; trials = omega arith; extreme = omega arith }

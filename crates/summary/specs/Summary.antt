@@ -1,11 +1,12 @@
 -- The group summary: for each group the number of litters, successes, trials and extreme litters.
-use Rattle.std.specs.Prelude.{Bool, ◌||◌, cond, List, [], ◌∷◌, ◌++◌, ℕ, ◌+◌, ◌<◌, eqb}
+use Rattle.std.specs.Prelude.{◌≡◌, Bool, ◌||◌, cond, List, [], ◌∷◌, ◌++◌, ℕ, ◌+◌, ◌<◌, eqb, Result, Ok, Err}
 use Rattle.num.specs.Sum.{sum_from}
-use Rattle.work.specs.declared.Ending.TheVariants.{Answered, InvalidInput}
+use Rattle.work.specs.declared.Refusal.{Refusal}
+use Rattle.work.specs.declared.Refusal.TheVariants.{InvalidInput}
 use Rattle.litters.specs.Litters.{count_of, successes_at, total_at, group_at}
 use Rattle.litters.specs.Valid.{valid_litters_of}
 use Rattle.summary.specs.declared.GroupCounts.{GroupCounts}
-use Rattle.summary.specs.declared.Summary.{Summary}
+use Rattle.summary.specs.declared.Counts.{Counts}
 
 -- a litter with no successes, or with no failures
 unfoldable pub extreme_of : ℕ → ℕ → Bool
@@ -13,6 +14,10 @@ extreme_of successes total = eqb successes 0 || eqb successes total
 
 abbrev pub no_counts : GroupCounts
 no_counts = record { litters = 0; successes = 0; trials = 0; extreme = 0 }
+
+-- what `default` says of its fields, as one equation
+pub none_is : (c : GroupCounts) → (c.litters ≡ 0) × ((c.successes ≡ 0) × ((c.trials ≡ 0) × (c.extreme ≡ 0))) → c ≡ no_counts
+none_is c e = λ j. record { litters = e.0 j; successes = e.1.0 j; trials = e.1.1.0 j; extreme = e.1.1.1 j }
 
 abbrev pub plus_of : GroupCounts → GroupCounts → GroupCounts
 plus_of a b =
@@ -49,15 +54,12 @@ group_list c = c.litters ∷ c.successes ∷ c.trials ∷ c.extreme ∷ []
 abbrev pub listed_of : GroupCounts → GroupCounts → List ℕ
 listed_of a b = group_list a ++ group_list b
 
--- a refusal: its ending and zeros
-abbrev pub refusal_of : Summary
-refusal_of = record { end = InvalidInput; first = no_counts; second = no_counts }
+-- both groups of a run of litters, valid or not
+unfoldable pub counted_of : List ℕ → Counts
+counted_of ls = record { first = counts_of ls 0; second = counts_of ls 1 }
 
-abbrev pub answer_of : GroupCounts → GroupCounts → Summary
-answer_of a b = record { end = Answered; first = a; second = b }
-
-unfoldable pub summary_of : List ℕ → Summary
-summary_of ls = cond (valid_litters_of ls) (answer_of (counts_of ls 0) (counts_of ls 1)) refusal_of
+unfoldable pub summary_of : List ℕ → Result Counts Refusal
+summary_of ls = cond (valid_litters_of ls) (Ok (counted_of ls)) (Err InvalidInput)
 
 -- two counts whose sums fit 64 bits
 pub record Adds (a b : GroupCounts) : Type 0 where

@@ -1,12 +1,15 @@
 // The group summary: for each group the number of litters, successes, trials and extreme litters.
 #![tactic(auto)]
 
-ghost use Rattle.std.specs.Prelude.{◌≡◌, cond, ◌<◌, length};
-ghost use Rattle.summary.specs.Summary.{extreme_of, no_counts, plus_of, litter_counts_of, counts_of, listed_of, refusal_of, summary_of, Adds};
+ghost use Rattle.std.specs.Prelude.{◌≡◌, ℕ, ◌+◌, ◌<◌, length};
+ghost use Rattle.summary.specs.Summary.{extreme_of, plus_of, litter_counts_of, counts_of, listed_of, summary_of, Adds};
+ghost use Rattle.summary.specs.Most.{Below, capacity};
+ghost use Rattle.summary.specs.Both.{both_of, one_of, BothBelow};
 
-use work::Ending;
+use litters::Litter;
+use work::Refusal;
 
-#[derive(Clone, Copy)]
+#[derive(Clone, Copy, PartialEq, Eq, Default)]
 pub struct GroupCounts {
     pub litters: u64,
     pub successes: u64,
@@ -14,116 +17,111 @@ pub struct GroupCounts {
     pub extreme: u64,
 }
 
-#[derive(Clone, Copy)]
-pub struct Summary {
-    pub end: Ending,
+// Of both groups.
+#[derive(Clone, Copy, PartialEq, Eq, Default)]
+pub struct Counts {
     pub first: GroupCounts,
     pub second: GroupCounts,
 }
 
-pub fn extreme(successes: u32, total: u32) -> bool
-    ensures { result ≡ extreme_of successes total }
+// With no successes, or with no failures.
+#[tactic(auto, unfolding(crate::specs::Summary::extreme_of))]
+pub fn extreme(litter: Litter) -> bool
+    ensures { result ≡ extreme_of litter.successes litter.total }
 {
-    num::either(successes == 0, successes == total)
+    litter.successes == 0 || litter.successes == litter.total
 }
 
-fn tally(t: bool) -> u64
-    ensures { result ≡ cond t 1 0 }
-{
-    if t { 1 } else { 0 }
-}
-
-pub fn no_counts() -> GroupCounts
-    ensures { result ≡ no_counts }
-{
-    GroupCounts {
-        litters: 0,
-        successes: 0,
-        trials: 0,
-        extreme: 0,
-    }
-}
-
-// Both groups' counts in the order in which a host is given them.
-pub fn listed(a: GroupCounts, b: GroupCounts) -> [u64; 8]
-    ensures { result ≡ listed_of a b }
-{
-    [
-        a.litters,
-        a.successes,
-        a.trials,
-        a.extreme,
-        b.litters,
-        b.successes,
-        b.trials,
-        b.extreme,
-    ]
-}
-
-pub fn plus(a: GroupCounts, b: GroupCounts) -> GroupCounts
-    requires { Adds a b }
-    ensures { result ≡ plus_of a b }
-{
-    GroupCounts {
-        litters: a.litters + b.litters,
-        successes: a.successes + b.successes,
-        trials: a.trials + b.trials,
-        extreme: a.extreme + b.extreme,
-    }
-}
-
-pub fn litter_counts(asked: u32, successes: u32, total: u32, group: u32) -> GroupCounts
-    ensures { result ≡ litter_counts_of asked successes total group }
-{
-    if group == asked {
-        return GroupCounts {
+impl GroupCounts {
+    // What a litter adds to the counts of the group asked for.
+    #[tactic(auto, unfolding(crate::specs::Summary::litter_counts_of))]
+    pub fn of(litter: Litter, asked: u32) -> GroupCounts
+        ensures { result ≡ litter_counts_of asked litter.successes litter.total litter.group }
+    {
+        if litter.group != asked {
+            return GroupCounts::default();
+        }
+        GroupCounts {
             litters: 1,
-            successes: successes as u64,
-            trials: total as u64,
-            extreme: tally(extreme(successes, total)),
-        };
+            successes: u64::from(litter.successes),
+            trials: u64::from(litter.total),
+            extreme: u64::from(extreme(litter)),
+        }
     }
-    no_counts()
+
+    pub fn plus(self, more: GroupCounts) -> GroupCounts
+        requires { Adds self more }
+        ensures { result ≡ plus_of self more }
+    {
+        GroupCounts {
+            litters: self.litters + more.litters,
+            successes: self.successes + more.successes,
+            trials: self.trials + more.trials,
+            extreme: self.extreme + more.extreme,
+        }
+    }
+
+    // With one litter more.
+    pub fn with(self, litter: Litter, asked: u32) -> GroupCounts
+        requires { Below self capacity }
+        ensures counts { result ≡ plus_of self (litter_counts_of asked litter.successes litter.total litter.group) }
+        ensures grown { (k : ℕ) → Below self k → Below result (k + 1) }
+    {
+        self.plus(GroupCounts::of(litter, asked))
+    }
+
+    // The counts of one group over a run. So short a slice cannot overflow them, whatever its numbers.
+    pub fn over(litters: &[u32], asked: u32) -> GroupCounts
+        requires { length litters.now < 0x1_0000_0000 }
+        ensures { result ≡ counts_of litters.now asked }
+    {
+        let mut counts = GroupCounts::default();
+        for row in litters::rows(litters) {
+            counts = counts.with(Litter::from(*row), asked);
+        }
+        counts
+    }
 }
 
-// The counts of one group. So short a slice cannot overflow them, whatever its numbers.
-pub fn counts(litters: &[u32], asked: u32) -> GroupCounts
-    requires { length litters.now < 0x1_0000_0000 }
-    ensures { (result ≡ counts_of litters.now asked) × (litters.now ≡ litters.now) }
-{
-    let n = litters.len() / 3;
-    let mut c = no_counts();
-    for i in 0..n {
-        let k = 3 * i;
-        let one = litter_counts(asked, litters[k], litters[k + 1], litters[k + 2]);
-        let s = plus(c, one);
-        c = s;
+impl Counts {
+    pub fn with(self, litter: Litter) -> Counts
+        requires { BothBelow self capacity }
+        ensures counts { result ≡ both_of self (one_of litter.successes litter.total litter.group) }
+        ensures grown { (k : ℕ) → BothBelow self k → BothBelow result (k + 1) }
+    {
+        Counts {
+            first: self.first.with(litter, 0),
+            second: self.second.with(litter, 1),
+        }
     }
-    c
+
+    // In the order in which a host is given them.
+    pub fn listed(self) -> [u64; 8]
+        ensures { result ≡ listed_of self.first self.second }
+    {
+        let Counts { first, second } = self;
+        [
+            first.litters,
+            first.successes,
+            first.trials,
+            first.extreme,
+            second.litters,
+            second.successes,
+            second.trials,
+            second.extreme,
+        ]
+    }
 }
 
-fn refusal() -> Summary
-    ensures { result ≡ refusal_of }
-{
-    let none = no_counts();
-    Summary {
-        end: Ending::InvalidInput,
-        first: none,
-        second: none,
-    }
-}
-
-pub fn summarize(litters: &[u32]) -> Summary
-    ensures { (result ≡ summary_of litters.now) × (litters.now ≡ litters.now) }
+// Litters that are not valid are refused.
+pub fn summarize(litters: &[u32]) -> Result<Counts, Refusal>
+    ensures { result ≡ summary_of litters.now }
 {
     if !litters::valid::valid_litters(litters) {
-        return refusal();
+        return Err(Refusal::InvalidInput);
     }
-    let first = counts(litters, 0);
-    let second = counts(litters, 1);
-    Summary {
-        end: Ending::Answered,
-        first,
-        second,
-    }
+    Ok(Counts {
+        first: GroupCounts::over(litters, 0),
+        second: GroupCounts::over(litters, 1),
+    })
 }

@@ -1,12 +1,11 @@
 -- How many evaluations the goal and the tails make at most, whatever their values: `AtMost k w` says that w never makes more than k.
 use Prim.Native.Nat.{ℕ, zero, suc, ◌+◌}
-use Rattle.std.specs.Prelude.{Float}
+use Rattle.std.specs.Prelude.{Option, Float}
 use Rattle.work.specs.Work.{◌>>=◌}
 use Rattle.work.specs.AtMost.{AtMost, rets, stops, asks, either, both}
 use Rattle.posterior.specs.declared.side.Side.{Side}
 use Rattle.posterior.specs.declared.side.Side.TheVariants.{Left, Right}
 use Rattle.posterior.specs.Integrand.{Eval}
-use Rattle.tail.specs.declared.TailBound.{TailBound}
 use Rattle.tail.specs.declared.Hill.{Hill}
 use Rattle.tail.specs.Tail.{within_of, both_closed_of, bound_after_of, step_out, walk, span, goal}
 
@@ -17,7 +16,7 @@ module _ (here : Float → Eval) where
   goal_at_most mode log delta = asks (λ l. asks (λ r. rets))
 
   -- n steps outward make at most n
-  pub walk_at_most : (h : Hill) (side : Side) (n j : ℕ) (z : Float) (b : TailBound) → AtMost n (walk here h side n j z b)
+  pub walk_at_most : (h : Hill) (side : Side) (n j : ℕ) (z : Float) (b : Option Float) → AtMost n (walk here h side n j z b)
   unfolding walk ◌>>=◌
   walk_at_most h side zero j z b = rets
   walk_at_most h side (suc n) j z b =

@@ -1,14 +1,13 @@
 -- The goal and the tails stop by themselves for a reason from 1 to 5 alone (3), whatever the evaluations' values.
 use Prim.Native.Nat.{ℕ, zero, suc, ◌+◌}
 use Rattle.std.proofs.Math.Dec.{lit≤}
-use Rattle.std.specs.Prelude.{Float}
+use Rattle.std.specs.Prelude.{Option, Float}
 use Rattle.work.specs.Ended.{domain}
 use Rattle.work.specs.Work.{◌>>=◌}
 use Rattle.work.specs.Stops.{Stops, answers, refuses, hears, chosen, passed, Reasoned}
 use Rattle.posterior.specs.declared.side.Side.{Side}
 use Rattle.posterior.specs.declared.side.Side.TheVariants.{Left, Right}
 use Rattle.posterior.specs.Integrand.{Eval}
-use Rattle.tail.specs.declared.TailBound.{TailBound}
 use Rattle.tail.specs.declared.Hill.{Hill}
 use Rattle.tail.specs.Tail.{within_of, both_closed_of, bound_after_of, step_out, walk, span, goal}
 
@@ -17,7 +16,7 @@ module _ (here : Float → Eval) where
   unfolding goal ◌>>=◌
   goal_reasons mode log delta = hears (λ l. hears (λ r. answers))
 
-  walk_reasons : (h : Hill) (side : Side) (n j : ℕ) (z : Float) (b : TailBound) → Stops (Reasoned 5) (walk here h side n j z b)
+  walk_reasons : (h : Hill) (side : Side) (n j : ℕ) (z : Float) (b : Option Float) → Stops (Reasoned 5) (walk here h side n j z b)
   unfolding walk ◌>>=◌
   walk_reasons h side zero j z b = answers
   walk_reasons h side (suc n) j z b =

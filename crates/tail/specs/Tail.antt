@@ -1,26 +1,19 @@
 -- The tails: how much mass beyond a point there can be, and steps outward until that is within a goal.
-use Rattle.std.specs.Prelude.{Bool, false, ◌&&◌, cond, [], ◌∷◌, ℕ, zero, suc, ◌+◌, Float}
+use Rattle.std.specs.Prelude.{Bool, false, ◌&&◌, cond, [], ◌∷◌, ℕ, zero, suc, ◌+◌, Option, None, Some, Float}
 use Rattle.std.specs.Float.Ieee.{le}
-use Rattle.num.specs.F64.{◌⊕◌, ◌⊖◌, ◌⊗◌, ◌⊘◌, whole, bits, zero·, one·, two·, four·, infinity·}
+use Rattle.num.specs.F64.{◌⊕◌, ◌⊖◌, ◌⊗◌, ◌⊘◌, whole, bits, one·, two·, four·, infinity·}
 use Rattle.num.specs.Helpers.{abs_of, is_finite_of, min_of, powi_of, sum_of}
 use Rattle.elementary.specs.Exp.{exp_of}
-use Rattle.work.specs.declared.Ending.{Ending}
 use Rattle.work.specs.Ended.{domain}
-use Rattle.work.specs.Work.{Work, ret, stop, eval, told, ◌>>=◌}
+use Rattle.work.specs.Work.{Work, ret, stop, eval, ◌>>=◌}
+use Rattle.posterior.specs.declared.side.Ends.{Ends}
 use Rattle.posterior.specs.declared.side.Side.{Side}
 use Rattle.posterior.specs.declared.side.Side.TheVariants.{Left, Right}
-use Rattle.posterior.specs.declared.integrand.Posterior.{Posterior}
 use Rattle.posterior.specs.declared.integrand.Point.{Point}
-use Rattle.posterior.specs.declared.number.Number.{Number}
-use Rattle.posterior.specs.declared.flanks.Flanks.{Flanks}
-use Rattle.tail.specs.declared.TailBound.{TailBound}
-use Rattle.tail.specs.declared.TailBound.TheVariants.{Open, At}
 use Rattle.tail.specs.declared.Hill.{Hill}
-use Rattle.tail.specs.declared.Tail.{Tail}
+use Rattle.tail.specs.declared.Reach.{Reach}
 use Rattle.posterior.specs.Side.{rises_of, steep_of, outward_of}
-use Rattle.posterior.specs.Integrand.{Eval, here, counted, from}
-use Rattle.posterior.specs.Number.{to_number}
-use Rattle.posterior.specs.Flanks.{Ends, no_ends, to_flanks}
+use Rattle.posterior.specs.Integrand.{Eval}
 
 -- one term of the polynomial: coefficient u^i sd^k / slope^j
 unfoldable pub term_of : Float → Float → ℕ → Float → ℕ → Float → ℕ → Float
@@ -43,43 +36,43 @@ tail_bound_of log-relative slope eta sd total =
     exp_of log-relative ⊗ eighty_six ⊗ powi_of (whole total) 4 ⊗ polynomial
 
 -- what ends a walk: an open side compares as infinity does, and a bound that is a NaN is not within its goal
-abbrev pub within_of : TailBound → Float → Bool
-within_of Open goal = le infinity· goal
-within_of (At b) goal = le b goal
+abbrev pub within_of : Option Float → Float → Bool
+within_of None goal = le infinity· goal
+within_of (Some b) goal = le b goal
 
 -- what is asked after both walks: a side that is bounded by a finite number at most its goal
-abbrev pub closed_of : TailBound → Float → Bool
-closed_of Open goal = false
-closed_of (At b) goal = is_finite_of b && le b goal
+abbrev pub closed_of : Option Float → Float → Bool
+closed_of None goal = false
+closed_of (Some b) goal = is_finite_of b && le b goal
 
-unfoldable pub both_closed_of : TailBound → TailBound → Float → Bool
+unfoldable pub both_closed_of : Option Float → Option Float → Float → Bool
 both_closed_of l r goal = closed_of l goal && closed_of r goal
 
--- What the walks of one litter share: its pups, mean and spread, and the mode, the logarithm there, the scale and the goal.
+-- What the walks of one litter share: its posterior, and the mode, the logarithm there, the scale and the goal.
 -- A new bound is taken only where the density rises toward the mode.
-unfoldable pub bound_after_of : Hill → Side → TailBound → Float → Float → Float → TailBound
-bound_after_of h side b z log slope = cond (rises_of side slope) (At (tail_bound_of (log ⊖ h.log) (steep_of side slope) (h.mean ⊕ h.sd ⊗ z) h.sd h.total)) b
+unfoldable pub bound_after_of : Hill → Side → Option Float → Float → Float → Float → Option Float
+bound_after_of h side b z log slope = cond (rises_of side slope) (Some (tail_bound_of (log ⊖ h.log) (steep_of side slope) (h.p.mean ⊕ h.p.sd ⊗ z) h.p.sd h.p.total)) b
 
 abbrev pub step_out : Hill → Side → ℕ → Float
 step_out h side j = outward_of side h.mode (h.delta ⊗ powi_of two· (j + 1))
 
-pub record Reach : Type 0 where
-  pub z : Float
-  pub bound : TailBound
-
 -- at most n steps more, the next of them the j-th
-unfoldable pub walk : (Float → Eval) → Hill → Side → ℕ → ℕ → Float → TailBound → Work Eval Point Reach
+unfoldable pub walk : (Float → Eval) → Hill → Side → ℕ → ℕ → Float → Option Float → Work Eval Point Reach
 walk here h side zero j z b = ret (record { z = z; bound = b })
 walk here h side (suc n) j z b = do
   v ← eval (here z)
   cond (within_of (bound_after_of h side b z v.log v.slope) h.goal) (ret (record { z = z; bound = bound_after_of h side b z v.log v.slope }))
       (walk here h side n (j + 1) (step_out h side j) (bound_after_of h side b z v.log v.slope))
 
+-- a walk from its first place, with no bound so far
+abbrev pub started : (Float → Eval) → Hill → Side → Work Eval Point Reach
+started here h side = walk here h side 30 0 (outward_of side h.mode h.delta) None
+
 -- reason 3, tail not bounded: a side is open, or its bound is a NaN, infinite or above its goal
 unfoldable pub span : (Float → Eval) → Hill → Work Eval Point Ends
 span here h = do
-  l ← walk here h Left 30 0 (outward_of Left h.mode h.delta) Open
-  r ← walk here h Right 30 0 (outward_of Right h.mode h.delta) Open
+  l ← started here h Left
+  r ← started here h Right
   cond (both_closed_of l.bound r.bound h.goal) (ret (record { left = l.z; right = r.z })) (stop (domain 3))
 
 -- 1e-13
@@ -92,23 +85,3 @@ goal here mode log delta = do
   l ← eval (here (mode ⊖ delta))
   r ← eval (here (mode ⊕ delta))
   ret (tail_share ⊗ (two· ⊗ delta ⊗ exp_of (min_of l.log r.log ⊖ log)))
-
--- ---- the code's answers
-
-unfoldable pub tail_goal_of : Posterior → Float → Float → Float → Number
-tail_goal_of p mode log delta = told (to_number p) zero· (from p (goal (here p) mode log delta))
-
-abbrev pub no_reach : Reach
-no_reach = record { z = zero·; bound = Open }
-
-abbrev pub to_tail : Posterior → Ending → ℕ → Reach → Tail
-to_tail p e n t = record { end = e; p = counted p n; z = t.z; bound = t.bound }
-
-unfoldable pub tail_from : Posterior → Hill → Side → ℕ → ℕ → Float → TailBound → Tail
-tail_from p h side n j z b = told (to_tail p) no_reach (from p (walk (here p) h side n j z b))
-
-unfoldable pub walk_out_of : Posterior → Hill → Side → Tail
-walk_out_of p h side = tail_from p h side 30 0 (outward_of side h.mode h.delta) Open
-
-unfoldable pub bounded_of : Posterior → Hill → Flanks
-bounded_of p h = told (to_flanks p) no_ends (from p (span (here p) h))

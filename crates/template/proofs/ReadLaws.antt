@@ -1,145 +1,109 @@
 -- A turn of the reading by a template: the byte of the template, what it found, and the values so far.
-use mathlib.Core.Path.{◌≡◌, refl, sym, ap, subst, ◌∙◌}
-use mathlib.Core.Bool.{Bool, true, false, cond}
-use mathlib.Core.List.{List, [], ◌∷◌, ◌++◌, append-nil}
-use Prim.Native.Nat.{ℕ, ◌+◌, ◌-◌, ◌≤◌, ◌<◌}
-use native.Mathlib.Omega.{arith}
-use native.Mathlib.Nat.{add-zero, add_assoc}
-use native.Mathlib.Numerals.{add-one}
-use lib.Dec.{eqb, ltb}
-use lib.ListN.{length, get_or, set, take, drop, replicate, length-set, length-drop, take-append-drop}
-use lib.Seq.{take-suc-set, drop-set-lt, drop-drop, length-take-le}
-use borrow.Author.Tests.{lt-ltb}
+use Rattle.std.specs.Prelude.{◌≡◌, refl, Bool, true, false, cond, List, [], ◌∷◌, ◌++◌, ℕ, ◌+◌, ◌-◌, ◌≤◌, ◌<◌, eqb, length, get_or, set, take, drop, replicate}
+use Rattle.std.proofs.Common.{sym, ap, ◌∙◌, append-nil, add-zero, add-one, add_assoc, arith, drop-cons, drop_of_length-le, drop-drop, length-set, take-append-drop, length-take-le, eq-eqb, ne_eqb}
+use Rattle.std.proofs.Math.Seq.{take-suc-set, drop-set-lt}
 use Rattle.num.specs.Left.{left_one}
-use Rattle.template.specs.declared.token.Token.{Token}
-use Rattle.template.specs.declared.token.Token.TheVariants.{Value, Departs}
 use Rattle.template.specs.Template.{is_hole_of, holes}
-use Rattle.template.specs.Field.{Field, found, departs}
+use Rattle.template.specs.Field.{found, departs}
 use Rattle.template.specs.Read.{read_field, Reading, done, departs_at, kept, value_of, line_after_of, feeds, read}
-use Rattle.template.specs.Says.{Says, in_places, values_of}
+use Rattle.template.specs.Says.{in_places}
 use Rattle.template.specs.Departure.{kept_kept}
-use Rattle.template.proofs.TokenLaws.{inside, past}
 
 pub kept_none : (r : Reading) → kept [] r ≡ r
 kept_none (done vs t) = refl
 kept_none (departs_at line) = refl
 
--- what a token that the code has in hand says
-pub says_value : (l : List ℕ) (t : Token) (v next : ℕ) (f : Field) → t ≡ Value v next → Says l t f → (f ≡ found v (drop next l)) × (next ≤ length l)
-says_value l t v next f e s = subst (λ (u : Token). Says l u f) e s
+inside : (l : List ℕ) (i : ℕ) → i < length l → drop i l ≡ get_or l i 0 ∷ drop (i + 1) l
+inside l i h = rw add-one (drop-cons l i 0 h)
 
-pub says_departs : (l : List ℕ) (t : Token) (f : Field) → t ≡ Departs → Says l t f → f ≡ departs
-says_departs l t f e s = subst (λ (u : Token). Says l u f) e s
+-- ---- what a byte of the template adds: a value or none to those so far, whose places after them hold zeros, and a line or none
 
-module _ (template text us : List ℕ) (k line at : ℕ) (w : Reading) (inv : kept us (read (drop k template) line (drop at text)) ≡ w) where
-  pub read_stops : k < length template → read_field (get_or template k 0) (drop at text) ≡ departs → w ≡ departs_at line
-  unfolding read
-  read_stops h e = sym (rw (inside template k h, e) at inv)
-
-  pub read_turns : (v next : ℕ) → k < length template → read_field (get_or template k 0) (drop at text) ≡ found v (drop next text) →
-      kept (us ++ value_of (get_or template k 0) v) (read (drop (k + 1) template) (line_after_of (get_or template k 0) line) (drop next text)) ≡ w
-  unfolding read
-  read_turns v next h e = sym (kept_kept us (value_of (get_or template k 0) v) (read (drop (k + 1) template) (line_after_of (get_or template k 0) line) (drop next text))) ∙ (rw (inside template k h, e) at inv)
-
-  pub read_ends : length template ≤ k → w ≡ done us (drop at text)
-  unfolding read
-  read_ends h = sym (rw (past template k h, append-nil us) at inv)
-
--- the values so far are those in front of the n-th
-pub values_turn : (values : List ℕ) (n v : ℕ) (hole : Bool) → length values ≡ 16 → (hole ≡ true → n < 16) →
-    take n values ++ cond hole (v ∷ []) [] ≡ take (n + cond hole 1 0) (cond hole (cond (ltb n 16) (set values n v) values) values)
-values_turn values n v true l h = rw (lt-ltb n 16 (h refl), add-one n) (sym (take-suc-set values n v (omega (arith, h refl))))
+values_turn : (values : List ℕ) (n v : ℕ) (hole : Bool) → length values ≡ 16 → (hole ≡ true → n < 16) → take n values ++ cond hole (v ∷ []) [] ≡ take (n + cond hole 1 0) (cond hole (set values n v) values)
+values_turn values n v true l h = rw add-one (sym (take-suc-set values n v (omega (arith, h refl))))
 values_turn values n v false l h = rw (append-nil (take n values), add-zero n)
 
-pub values_length : (values : List ℕ) (n v : ℕ) (hole : Bool) → length values ≡ 16 → length (cond hole (cond (ltb n 16) (set values n v) values) values) ≡ 16
-values_length values n v false l = l
-values_length values n v true l = by (ltb n 16) where
-  by : (t : Bool) → length (cond t (set values n v) values) ≡ 16
-  by true = length-set values n v ∙ l
-  by false = l
+all_turn : (values : List ℕ) (n v : ℕ) (hole : Bool) → length values ≡ 16 → length (cond hole (set values n v) values) ≡ 16
+all_turn values n v true l = length-set values n v ∙ l
+all_turn values n v false l = l
 
--- the places after the values so far hold zeros
-pub places_turn : (values : List ℕ) (n v : ℕ) (hole : Bool) → (hole ≡ true → n < 16) → drop n values ≡ replicate (16 - n) 0 →
-    drop (n + cond hole 1 0) (cond hole (cond (ltb n 16) (set values n v) values) values) ≡ replicate (16 - (n + cond hole 1 0)) 0
-places_turn values n v true h e =
-    rw (lt-ltb n 16 (h refl))
-    (drop-set-lt (n + 1) values n v (omega arith) ∙ sym (drop-drop 1 n values) ∙ ap (drop 1) (e ∙ ap (λ m. replicate m 0) (left_one 16 n (h refl))))
-places_turn values n v false h e = rw (add-zero n) e
+zeros_turn : (values : List ℕ) (n v : ℕ) (hole : Bool) → (hole ≡ true → n < 16) → drop n values ≡ replicate (16 - n) 0 → drop (n + cond hole 1 0) (cond hole (set values n v) values) ≡ replicate (16 - (n + cond hole 1 0)) 0
+zeros_turn values n v true h e = drop-set-lt (n + 1) values n v (omega arith) ∙ sym (drop-drop 1 n values) ∙ ap (drop 1) (e ∙ ap (λ m. replicate m 0) (left_one 16 n (h refl)))
+zeros_turn values n v false h e = rw (add-zero n) e
 
-pub places_filled : (values : List ℕ) (n : ℕ) → n ≤ 16 → length values ≡ 16 → drop n values ≡ replicate (16 - n) 0 → values ≡ in_places (take n values)
-places_filled values n h l e = rw (length-take-le n values (omega arith), ← e) (sym (take-append-drop n values))
+line_room : (t : Bool) (line m : ℕ) → line ≤ m → cond t (line + 1) line ≤ m + 1
+line_room true line m h = omega arith
+line_room false line m h = omega arith
 
-module _ (template : List ℕ) (k : ℕ) (h : k < length template) where
-  pub feeds_turn : (line : ℕ) → line_after_of (get_or template k 0) line + feeds (drop (k + 1) template) ≡ line + feeds (drop k template)
-  unfolding feeds
-  feeds_turn line = rw (inside template k h) (by (eqb (get_or template k 0) 10)) where
-    by : (t : Bool) → cond t (line + 1) line + feeds (drop (k + 1) template) ≡ line + (cond t 1 0 + feeds (drop (k + 1) template))
-    by true = omega arith
-    by false = omega arith
+line_feeds : (t : Bool) (line m : ℕ) → cond t (line + 1) line + m ≡ line + (cond t 1 0 + m)
+line_feeds true line m = omega arith
+line_feeds false line m = omega arith
 
-  pub holes_turn : holes (drop k template) ≡ cond (is_hole_of (get_or template k 0)) 1 0 + holes (drop (k + 1) template)
-  unfolding holes
-  holes_turn = rw (inside template k h)
+-- k bytes of a template are read, with n values and `line` lines; `rest` is left of the text
+pub record Left (template text : List ℕ) (start : ℕ) (rest : List ℕ) (line n : ℕ) (values : List ℕ) (k : ℕ) : Type 0 where
+  pub reads : kept (take n values) (read (drop k template) line rest) ≡ read template start text
+  pub count : n + holes (drop k template) ≡ holes template
+  pub few : line ≤ start + k
+  pub lines : line + feeds (drop k template) ≡ start + feeds template
+  pub all : length values ≡ 16
+  pub zeros : drop n values ≡ replicate (16 - n) 0
 
-  -- a value that is still to come has a place
-  pub hole_room : (n : ℕ) (hole : Bool) → hole ≡ is_hole_of (get_or template k 0) → n + holes (drop k template) ≡ holes template → holes template ≤ 16 → hole ≡ true → n < 16
-  hole_room n hole e i b t = let one : holes (drop k template) ≡ 1 + holes (drop (k + 1) template) = rw (← e, t) at holes_turn in omega arith
+pub left_first : (template text : List ℕ) (start : ℕ) → Left template text start text start 0 (replicate 16 0) 0
+left_first template text start = record { reads = kept_none _; count = omega arith; few = omega arith; lines = refl; all = refl; zeros = refl }
 
-pub no_feeds_left : (template : List ℕ) (k line m : ℕ) → length template ≤ k → line + feeds (drop k template) ≡ m → line ≡ m
-unfolding feeds
-no_feeds_left template k line m h e = sym (add-zero line) ∙ (rw (past template k h) at e)
+module _ {template text : List ℕ} {start : ℕ} {rest : List ℕ} {line n : ℕ} {values : List ℕ} {k : ℕ} (i : Left template text start rest line n values k) where
+  pub left_departs : k < length template → departs ≡ read_field (get_or template k 0) rest → read template start text ≡ departs_at line
+  unfolding read
+  left_departs h e = sym i.reads ∙ rw (inside template k h, ← e) refl
 
-pub none_left : (template : List ℕ) (k n : ℕ) → length template ≤ k → n + holes (drop k template) ≡ holes template → n ≡ holes template
-unfolding holes
-none_left template k n h e = sym (add-zero n) ∙ (rw (past template k h) at e)
-
-pub line_room : (c line m : ℕ) → line ≤ m → line_after_of c line ≤ m + 1
-line_room c line m h = by (eqb c 10) where
-  by : (t : Bool) → cond t (line + 1) line ≤ m + 1
-  by true = omega arith
-  by false = omega arith
-
--- ---- the loop: where it started, and what holds at its head
-
-pub record Start : Type 0 where
-  pub template : List ℕ
-  pub text : List ℕ
-  pub start : ℕ
-  pub first : ℕ
-
-abbrev pub Left : Start → ℕ → ℕ → ℕ → List ℕ → ℕ → Type 0
-Left s at line n values k =
-    (kept (take n values) (read (drop k s.template) line (drop at s.text)) ≡ read s.template s.first (drop s.start s.text)) × (at ≤ length s.text) ×
-    (n + holes (drop k s.template) ≡ holes s.template) × (line ≤ s.first + k) × (length values ≡ 16) ×
-    (line + feeds (drop k s.template) ≡ s.first + feeds s.template) × (drop n values ≡ replicate (16 - n) 0)
-
-module _ (s : Start) (at line n : ℕ) (values : List ℕ) (k v next : ℕ) (i : Left s at line n values k) (h : k < length s.template) where
-  pub left_again : (hole : Bool) (values' : List ℕ) (n' line' : ℕ) → holes s.template ≤ 16 →
-      (read_field (get_or s.template k 0) (drop at s.text) ≡ found v (drop next s.text)) × (next ≤ length s.text) →
-      hole ≡ is_hole_of (get_or s.template k 0) → values' ≡ cond hole (cond (ltb n 16) (set values n v) values) values → n' ≡ n + cond hole 1 0 → line' ≡ line_after_of (get_or s.template k 0) line →
-      Left s next line' n' values' (k + 1)
-  left_again hole values' n' line' b f e ev en el =
-      let room = hole_room s.template k h n hole e i.2 b in
-      let turn = read_turns s.template s.text (take n values) k line at _ i.0 v next h f.0 in
-      let more = holes_turn s.template k h in (
-        rw (ev, en, el, ← values_turn values n v hole i.4 room, e) turn,
-        f.1,
-        rw (en, e, add_assoc, ← more) i.2,
-        rw el (omega (arith, line_room (get_or s.template k 0) line (s.first + k) i.3)),
-        rw ev (values_length values n v hole i.4),
-        rw el (feeds_turn s.template k h line ∙ i.5),
-        rw (en, ev) (places_turn values n v hole room i.6),
+  pub left_ends : length template ≤ k → holes template ≤ 16 → (n ≡ holes template) × (line ≡ start + feeds template) × (read template start text ≡ done (take n values) rest) × (values ≡ in_places (take n values))
+  unfolding read holes feeds
+  left_ends h b =
+      let z = drop_of_length-le template {i = k} h in
+      let e : n ≡ holes template = sym (add-zero n) ∙ (rw z at i.count) in
+      let m : n ≤ length values = omega (arith, e, b, i.all) in (
+        e,
+        sym (add-zero line) ∙ (rw z at i.lines),
+        sym (rw (z, append-nil (take n values)) at i.reads),
+        rw (length-take-le n values m, ← i.zeros) (sym (take-append-drop n values)),
       )
 
--- ---- what is answered
+  -- a value that is still to come has a place
+  pub left_room : k < length template → holes template ≤ 16 → is_hole_of (get_or template k 0) ≡ true → n < 16
+  unfolding holes
+  left_room h b t = let one : holes (drop k template) ≡ 1 + holes (drop (k + 1) template) = rw (inside template k h, t) in omega (arith, one, i.count)
 
-pub answer_departs : (text : List ℕ) (line after : ℕ) (w : Reading) → w ≡ departs_at line → record { fits = false; at = 0; line = line; values = replicate 16 0 } ≡ values_of text after w
-unfolding values_of
-answer_departs text line after w e = rw e
+  pub left_turns :
+      (v : ℕ) (after : List ℕ) (line' n' : ℕ) (values' : List ℕ) → k < length template → holes template ≤ 16 → found v after ≡ read_field (get_or template k 0) rest →
+      n' ≡ n + cond (is_hole_of (get_or template k 0)) 1 0 → values' ≡ cond (is_hole_of (get_or template k 0)) (set values n v) values → line' ≡ line_after_of (get_or template k 0) line →
+      Left template text start after line' n' values' (k + 1)
+  unfolding read holes feeds
+  left_turns v after line' n' values' h b f en ev el =
+      let byte = get_or template k 0 in
+      let front = inside template k h in
+      let turn : kept (take n values) (kept (value_of byte v) (read (drop (k + 1) template) (line_after_of byte line) after)) ≡ read template start text = rw (front, ← f) at i.reads in
+      let more : n + (cond (is_hole_of byte) 1 0 + holes (drop (k + 1) template)) ≡ holes template = rw front at i.count in
+      let lines : line + (cond (eqb byte 10) 1 0 + feeds (drop (k + 1) template)) ≡ start + feeds template = rw front at i.lines in
+      record {
+        reads = rw (ev, en, el, ← values_turn values n v (is_hole_of byte) i.all (left_room h b)) (sym (kept_kept (take n values) (value_of byte v) (read (drop (k + 1) template) (line_after_of byte line) after)) ∙ turn);
+        count = rw (en, add_assoc) more;
+        few = rw (el, ← add_assoc) (line_room (eqb byte 10) line (start + k) i.few);
+        lines = rw el (line_feeds (eqb byte 10) line (feeds (drop (k + 1) template)) ∙ lines);
+        all = rw ev (all_turn values n v (is_hole_of byte) i.all);
+        zeros = rw (en, ev) (zeros_turn values n v (is_hole_of byte) (left_room h b) i.zeros);
+      }
 
-pub answer_done : (text values : List ℕ) (at line after n : ℕ) (w : Reading) → w ≡ done (take n values) (drop at text) → at ≤ length text → line ≡ after → values ≡ in_places (take n values) →
-    record { fits = true; at = at; line = line; values = values } ≡ values_of text after w
-unfolding values_of
-answer_done text values at line after n w e h l v =
-    let p : length text - (length text - at) ≡ at = omega arith in
-    rw (e, length-drop at text, p, ← v, l)
+module _ (c : ℕ) where
+  pub hole_count : c ≡ 35 → is_hole_of c ≡ true
+  hole_count e = rw (eq-eqb c 35 e) refl
+
+  pub hole_bits : (c ≡ 35 → ⊥) → c ≡ 37 → is_hole_of c ≡ true
+  hole_bits d e = rw (ne_eqb c 35 d, eq-eqb c 37 e) refl
+
+  pub no_hole : (c ≡ 35 → ⊥) → (c ≡ 37 → ⊥) → is_hole_of c ≡ false
+  no_hole d e = rw (ne_eqb c 35 d, ne_eqb c 37 e) refl
+
+  pub next_line : (line : ℕ) → c ≡ 10 → line_after_of c line ≡ line + 1
+  next_line line e = rw (eq-eqb c 10 e) refl
+
+  pub same_line : (line : ℕ) → (c ≡ 10 → ⊥) → line_after_of c line ≡ line
+  same_line line e = rw (ne_eqb c 10 e) refl

@@ -1,5 +1,5 @@
 -- Reading by a template and spelling it are inverse: what is spelled is read back, and what is read is spelled. A rendering is a spelling, and of counts alone the only one.
-use Rattle.std.specs.Prelude.{◌≡◌, refl, ◌≢◌, Bool, true, false, cond, ◌&&◌, ◌||◌, not, List, [], ◌∷◌, ◌++◌, ℕ, zero, suc, ◌+◌, ◌≤◌, ◌<◌, T, ltb, eqb, length, get_or}
+use Rattle.std.specs.Prelude.{◌≡◌, refl, ◌≢◌, Bool, true, false, cond, ◌&&◌, ◌||◌, not, List, [], ◌∷◌, ◌++◌, ℕ, zero, suc, ◌≤◌, ◌<◌, T, ltb, eqb, length, get_or}
 use Rattle.std.proofs.Common.{sym, ap, ◌∙◌, append_assoc, le_of_suc-le-suc, not-suc-le-zero, arith, eqb-true, eq-eqb, lit≤, length-append}
 use borrow.Table.Steps.{cases}
 use Rattle.std.specs.Float.Ieee.Fits.{and_l, and_r}

@@ -53,7 +53,7 @@ by_lines (c ∷ f) line s = by_byte (read_field c s) (by_lines f line)
     by_byte (found v t) ih = cases (eqb c 10) (λ b. rw (b, append-nil (value_of c v))) (λ b. rw b (ap (λ r. kept (value_of c v) r) (ih t) ∙ kept_on (value_of c v) (read (first_line f) line t) (read (other_lines f) (line + 1))))
 
 -- in one line, a departure is at that line
-in_line : (f : List ℕ) (line k : ℕ) (s : List ℕ) → read (first_line f) line s ≡ departs_at k → line ≡ k
+pub in_line : (f : List ℕ) (line k : ℕ) (s : List ℕ) → read (first_line f) line s ≡ departs_at k → line ≡ k
 unfolding read
 in_line [] line k s e = absurd (not_done k [] s (sym e))
 in_line (c ∷ f) line k s e = by_byte (read_field c s) e (in_line f line k)

@@ -13,3 +13,4 @@ pub mod Said
 pub mod Departure
 pub mod Feeds
 pub mod Examples
+pub mod OneAnswer

@@ -1,42 +1,24 @@
-// What a byte is as a digit.
-ghost use Rattle.std.specs.Prelude.{◌≡◌, ◌-◌, ◌≤◌};
+// A digit at the front of a text, and what is left after it.
+ghost use Rattle.std.specs.Prelude.{◌≡◌, ◌-◌, true, false, MatchOption};
+ghost use Rattle.template.specs.Template.{first, after};
 ghost use Rattle.template.specs.Field.{is_digit_of, is_hex_of, hex_value_of};
+ghost use Rattle.template.specs.Says.{Digit, HexDigit};
 
-pub fn is_digit(c: u8) -> bool
-    ensures { result ≡ is_digit_of c }
+pub fn read_digit(text: &[u8]) -> Option<(u64, &[u8])>
+    ensures { MatchOption result (is_digit_of (first text.now) ≡ false) (λ p. Digit text.now p.0 p.1.now) }
 {
-    num::both(48 <= c, c <= 57)
+    match text {
+        [c @ b'0'..=b'9', rest @ ..] => Some((u64::from(*c - b'0'), rest)),
+        _ => None,
+    }
 }
 
-pub fn is_hex(c: u8) -> bool
-    ensures { result ≡ is_hex_of c }
+pub fn read_hex_digit(text: &[u8]) -> Option<(u64, &[u8])>
+    ensures { MatchOption result (is_hex_of (first text.now) ≡ false) (λ p. HexDigit text.now p.0 p.1.now) }
 {
-    let decimal = is_digit(c);
-    let letter = num::both(97 <= c, c <= 102);
-    num::either(decimal, letter)
-}
-
-fn wide(c: u8) -> u64
-    ensures { result ≡ c }
-{
-    c as u64
-}
-
-fn above(c: u8, zero: u8) -> u64
-    ensures { (result ≡ c - zero) × (result ≤ 255) }
-{
-    if zero <= c { wide(c - zero) } else { 0 }
-}
-
-// 0 below `0`, since no digit is there.
-pub fn digit_value(c: u8) -> u64
-    ensures { (result ≡ c - 48) × (result ≤ 255) }
-{
-    above(c, 48)
-}
-
-pub fn hex_value(c: u8) -> u64
-    ensures { result ≡ hex_value_of c }
-{
-    if 97 <= c { above(c, 87) } else { above(c, 48) }
+    match text {
+        [c @ b'0'..=b'9', rest @ ..] => Some((u64::from(*c - b'0'), rest)),
+        [c @ b'a'..=b'f', rest @ ..] => Some((u64::from(*c - b'a') + 10, rest)),
+        _ => None,
+    }
 }

@@ -1,85 +1,49 @@
-// A text read by a template: its values in order, and where the text goes on, or the line at which it departs.
-ghost use Rattle.std.specs.Prelude.{◌≡◌, cond, ◌+◌, ◌^◌, ◌≤◌, ◌<◌, ltb, length, set, drop};
-ghost use Rattle.template.specs.Template.{is_hole_of, holes};
-ghost use Rattle.template.specs.Read.{line_after_of, feeds};
+// A text read by a template: its values in order and what is left of the text, or the line at which the text departs.
+ghost use Rattle.std.specs.Prelude.{◌≡◌, ◌+◌, ◌^◌, ◌≤◌, ◌<◌, length, take, IfOk, IfErr};
+ghost use Rattle.template.specs.Template.{holes};
+ghost use Rattle.template.specs.Read.{feeds, done, departs_at};
 ghost use Rattle.template.specs.Read.{read as Read·read};
-ghost use Rattle.template.specs.Says.{values_of};
+ghost use Rattle.template.specs.Says.{in_places};
 
-use crate::token::Token;
-
-#[derive(Clone, Copy)]
-pub struct Values {
-    pub fits: bool,
-    pub at: usize,
+// A text is not of the form: the number of the line at which it departs, 0 where no line does.
+#[derive(Clone, Copy, PartialEq, Eq)]
+pub struct Form {
     pub line: u64,
+}
+
+// A template's values, zeros after them; and where the text goes on, with the number of its line.
+#[derive(Clone, Copy)]
+pub struct Filled<'a> {
     pub values: [u64; 16],
+    pub line: u64,
+    pub rest: &'a [u8],
 }
 
-fn is_hole(c: u8) -> bool
-    ensures { result ≡ is_hole_of c }
+// `first` is the number of the text's first line.
+pub fn read<'a>(text: &'a [u8], template: &[u8], first: u64) -> Result<Filled<'a>, Form>
+    requires places { holes template.now ≤ 16 }
+    requires lines { first + length template.now < 2 ^ 63 }
+    ensures values { IfOk result (λ r. Read·read template.now first text.now ≡ done (take (holes template.now) r.values) r.rest.now) }
+    ensures places { IfOk result (λ r. r.values ≡ in_places (take (holes template.now) r.values)) }
+    ensures line { IfOk result (λ r. r.line ≡ first + feeds template.now) }
+    ensures departs { IfErr result (λ e. Read·read template.now first text.now ≡ departs_at e.line) }
 {
-    num::either(c == 35, c == 37)
-}
-
-fn with_value(values: [u64; 16], n: usize, hole: bool, v: u64) -> [u64; 16]
-    ensures { result ≡ cond hole (cond (ltb n 16) (set values n v) values) values }
-{
-    if !hole {
-        return values;
-    }
-    if 16 <= n {
-        return values;
-    }
-    let mut more = values;
-    more[n] = v;
-    more
-}
-
-fn count_after(n: usize, hole: bool) -> usize
-    requires { n < 2 ^ 63 }
-    ensures { result ≡ n + cond hole 1 0 }
-{
-    if hole { n + 1 } else { n }
-}
-
-fn line_after(c: u8, line: u64) -> u64
-    requires { line + 1 < 2 ^ 64 }
-    ensures { result ≡ line_after_of c line }
-{
-    if c == 10 { line + 1 } else { line }
-}
-
-// `first` is the number of the line at `start`.
-pub fn read(text: &[u8], start: usize, template: &[u8], first: u64) -> Values
-    requires { (start ≤ length text.now) × (holes template.now ≤ 16) × (first + length template.now < 2 ^ 63) }
-    ensures { result ≡ values_of text.now (first + feeds template.now) (Read·read template.now first (drop start text.now)) }
-{
-    let mut at = start;
+    let mut rest = text;
     let mut line = first;
+    let mut values = [0; 16];
     let mut n: usize = 0;
-    let mut values = [0u64; 16];
-    for k in 0..template.len() {
-        let c = template[k];
-        let t = crate::token::token_at(text, at, c);
-        let Token::Value(v, next) = t else {
-            return Values {
-                fits: false,
-                at: 0,
-                line,
-                values: [0; 16],
-            };
+    for c in template {
+        let Some((value, after)) = crate::token::read_field(rest, *c) else {
+            return Err(Form { line });
         };
-        let hole = is_hole(c);
-        let more = with_value(values, n, hole, v);
-        values = more;
-        n = count_after(n, hole);
-        at = next;
-        line = line_after(c, line);
+        if *c == b'#' || *c == b'%' {
+            values[n] = value;
+            n += 1;
+        }
+        if *c == b'\n' {
+            line += 1;
+        }
+        rest = after;
     }
-    Values {
-        fits: true,
-        at,
-        line,
-        values,
-    }
+    Ok(Filled { values, line, rest })
 }

@@ -1,97 +1,71 @@
-// What stands at a place of a text: a hexadecimal number, a count, one byte, or what a byte of a template asks for.
-ghost use Rattle.std.specs.Prelude.{◌^◌, ◌≤◌, ◌<◌, length, drop};
-ghost use Rattle.template.specs.Field.{read_hex, read_more, read_count, read_byte};
-ghost use Rattle.template.specs.Read.{read_field};
-ghost use Rattle.template.specs.Says.{Says};
+// What stands at a text's front: a hexadecimal number, a count, one byte, or what a byte of a template asks for.
+ghost use Rattle.std.specs.Prelude.{◌≡◌, ◌^◌, ◌<◌};
+ghost use Rattle.template.specs.Field as Field;
+ghost use Rattle.template.specs.Read as Read;
+ghost use Rattle.template.specs.Says.{field_of};
 
-// A value and where the text goes on.
-#[derive(Clone, Copy)]
-pub enum Token {
-    Value(u64, usize),
-    Departs,
-}
+use crate::digits::{read_digit, read_hex_digit};
 
-pub fn hex_at(text: &[u8], start: usize) -> Token
-    requires { start ≤ length text.now }
-    ensures { Says text.now result (read_hex 16 0 (drop start text.now)) }
+pub fn read_hex(text: &[u8]) -> Option<(u64, &[u8])>
+    ensures { field_of result ≡ Field.read_hex 16 0 text.now }
 {
-    let mut v: u64 = 0;
-    let mut at = start;
+    let mut value = 0;
+    let mut rest = text;
     for _ in 0..16u64 {
-        if text.len() <= at {
-            return Token::Departs;
-        }
-        let c = text[at];
-        if !crate::digits::is_hex(c) {
-            return Token::Departs;
-        }
-        v = 16 * v + crate::digits::hex_value(c);
-        at += 1;
+        let (digit, after) = read_hex_digit(rest)?;
+        value = 16 * value + digit;
+        rest = after;
     }
-    Token::Value(v, at)
+    Some((value, rest))
 }
 
-// The digits after a count's first, which is v.
-fn more_at(text: &[u8], first: u64, start: usize) -> Token
-    requires { (start ≤ length text.now) × (first < 2 ^ 32) }
-    ensures { Says text.now result (read_more first (drop start text.now)) }
+// The digits after a count's first. A count is below 2^32.
+fn read_more(text: &[u8], first: u64) -> Option<(u64, &[u8])>
+    requires { first < 2 ^ 32 }
+    ensures { field_of result ≡ Field.read_more first text.now }
 {
-    let mut v = first;
-    let n = text.len();
-    for at in start..n {
-        let c = text[at];
-        if !crate::digits::is_digit(c) {
-            return Token::Value(v, at);
+    let mut value = first;
+    let mut rest = text;
+    while let Some((digit, after)) = read_digit(rest) {
+        value = 10 * value + digit;
+        if 0x1_0000_0000 <= value {
+            return None;
         }
-        v = 10 * v + crate::digits::digit_value(c);
-        if 4294967296 <= v {
-            return Token::Departs;
-        }
+        rest = after;
     }
-    Token::Value(v, n)
+    Some((value, rest))
 }
 
-fn count_at(text: &[u8], at: usize) -> Token
-    requires { at ≤ length text.now }
-    ensures { Says text.now result (read_count (drop at text.now)) }
+#[tactic(auto, unfolding(crate::specs::Field::read_count))]
+fn read_count(text: &[u8]) -> Option<(u64, &[u8])>
+    ensures { field_of result ≡ Field.read_count text.now }
 {
-    if text.len() <= at {
-        return Token::Departs;
+    if let [b'0', rest @ ..] = text {
+        return Some((0, rest));
     }
-    let c = text[at];
-    if c == 48 {
-        return Token::Value(0, at + 1);
-    }
-    if !crate::digits::is_digit(c) {
-        return Token::Departs;
-    }
-    more_at(text, crate::digits::digit_value(c), at + 1)
+    let (digit, rest) = read_digit(text)?;
+    read_more(rest, digit)
 }
 
-// The byte c itself.
-fn byte_at(text: &[u8], at: usize, c: u8) -> Token
-    requires { at ≤ length text.now }
-    ensures { Says text.now result (read_byte c (drop at text.now)) }
+// The byte c itself, which has no value: 0 stands for it.
+#[tactic(auto, unfolding(crate::specs::Field::read_byte))]
+fn read_byte(text: &[u8], c: u8) -> Option<(u64, &[u8])>
+    ensures { field_of result ≡ Field.read_byte c text.now }
 {
-    if text.len() <= at {
-        return Token::Departs;
+    match text {
+        [first, rest @ ..] if *first == c => Some((0, rest)),
+        _ => None,
     }
-    if text[at] == c {
-        return Token::Value(0, at + 1);
-    }
-    Token::Departs
 }
 
 // What the byte c of a template stands for.
-pub fn token_at(text: &[u8], at: usize, c: u8) -> Token
-    requires { at ≤ length text.now }
-    ensures { Says text.now result (read_field c (drop at text.now)) }
+#[tactic(auto, unfolding(crate::specs::Read::read_field))]
+pub fn read_field(text: &[u8], c: u8) -> Option<(u64, &[u8])>
+    ensures { field_of result ≡ Read.read_field c text.now }
 {
-    if c == 35 {
-        return count_at(text, at);
+    match c {
+        b'#' => read_count(text),
+        b'%' => crate::value::read_value(text),
+        _ => read_byte(text, c),
     }
-    if c == 37 {
-        return crate::value::value_at(text, at);
-    }
-    byte_at(text, at, c)
 }

@@ -1,97 +1,75 @@
 // What stands where an f64 is asked for: a decimal, or sixteen hexadecimal digits.
-ghost use Rattle.std.specs.Prelude.{◌≡◌, ℕ, ◌+◌, ◌-◌, ◌^◌, ◌≤◌, ◌<◌, length, drop};
-ghost use Rattle.template.specs.Decimal.{read_run, read_unsigned, read_decimal, read_value};
-ghost use Rattle.template.specs.Says.{ran_of, Says};
+ghost use Rattle.std.specs.Prelude.{◌≡◌, ℕ, ◌+◌, ◌-◌, ◌^◌, ◌≤◌, ◌<◌};
+ghost use Rattle.template.specs.Decimal as Decimal;
+ghost use Rattle.template.specs.Says.{field_of};
 
-use crate::token::Token;
+use crate::digits::read_digit;
 
-// A run of digits: the number with them, how many, and where the text goes on.
+// A run of digits: the number with them, how many, and what is left of the text.
 #[derive(Clone, Copy)]
-pub struct Ran {
-    pub value: u64,
-    pub count: u64,
-    pub at: usize,
+struct Run<'a> {
+    value: u64,
+    count: u64,
+    rest: &'a [u8],
 }
 
 // At most `most` digits, behind those whose number is `first`, of which there are 17 - most or fewer.
-fn run_at(text: &[u8], start: usize, most: u64, first: u64) -> Ran
-    requires { (start ≤ length text.now) × (most ≤ 17) × (first < 10 ^ (17 - most)) }
-    ensures { (read_run most first 0 (drop start text.now) ≡ ran_of text.now result) × (result.at ≤ length text.now) × (result.count ≤ most) × ((n : ℕ) → first < 10 ^ n → result.value < 10 ^ (n + result.count)) }
+fn read_run(text: &[u8], most: u64, first: u64) -> Run<'_>
+    requires at_most_17 { most ≤ 17 }
+    requires room { first < 10 ^ (17 - most) }
+    ensures run { Decimal.read_run most first 0 text.now ≡ Decimal.run result.value result.count result.rest.now }
+    ensures count { result.count ≤ most }
+    ensures small { (n : ℕ) → first < 10 ^ n → result.value < 10 ^ (n + result.count) }
 {
     let mut value = first;
-    let mut at = start;
-    for k in 0..most {
-        if text.len() <= at {
-            return Ran {
-                value,
-                count: k,
-                at,
-            };
-        }
-        let c = text[at];
-        if !crate::digits::is_digit(c) {
-            return Ran {
-                value,
-                count: k,
-                at,
-            };
-        }
-        value = 10 * value + crate::digits::digit_value(c);
-        at += 1;
+    let mut rest = text;
+    for count in 0..most {
+        let Some((digit, after)) = read_digit(rest) else {
+            return Run { value, count, rest };
+        };
+        value = 10 * value + digit;
+        rest = after;
     }
-    Ran {
+    Run {
         value,
         count: most,
-        at,
+        rest,
     }
 }
 
 // Digits, a point, digits.
-fn unsigned_at(text: &[u8], start: usize, minus: bool) -> Token
-    requires { start ≤ length text.now }
-    ensures { Says text.now result (read_unsigned minus (drop start text.now)) }
+#[tactic(auto, unfolding(crate::specs::Decimal::read_unsigned))]
+fn read_unsigned(text: &[u8], minus: bool) -> Option<(u64, &[u8])>
+    ensures { field_of result ≡ Decimal.read_unsigned minus text.now }
 {
-    let whole = run_at(text, start, 16, 0);
-    let a = whole.count;
-    let p = whole.at;
-    if a == 0 {
-        return Token::Departs;
+    let whole = read_run(text, 16, 0);
+    if whole.count == 0 {
+        return None;
     }
-    if text.len() <= p {
-        return Token::Departs;
+    let [b'.', behind @ ..] = whole.rest else {
+        return None;
+    };
+    let places = read_run(behind, 17 - whole.count, whole.value);
+    if places.count == 0 {
+        return None;
     }
-    if text[p] != 46 {
-        return Token::Departs;
-    }
-    let places = run_at(text, p + 1, 17 - a, whole.value);
-    let k = places.count;
-    if k == 0 {
-        return Token::Departs;
-    }
-    let x = decimal::decimal(minus, places.value, k);
-    Token::Value(f64::to_bits(x), places.at)
+    let x = decimal::decimal(minus, places.value, places.count);
+    Some((x.to_bits(), places.rest))
 }
 
-fn decimal_at(text: &[u8], at: usize) -> Token
-    requires { at ≤ length text.now }
-    ensures { Says text.now result (read_decimal (drop at text.now)) }
+#[tactic(auto, unfolding(crate::specs::Decimal::read_decimal))]
+fn read_decimal(text: &[u8]) -> Option<(u64, &[u8])>
+    ensures { field_of result ≡ Decimal.read_decimal text.now }
 {
-    if text.len() <= at {
-        return Token::Departs;
+    if let [b'-', rest @ ..] = text {
+        return read_unsigned(rest, true);
     }
-    if text[at] == 45 {
-        return unsigned_at(text, at + 1, true);
-    }
-    unsigned_at(text, at, false)
+    read_unsigned(text, false)
 }
 
-pub fn value_at(text: &[u8], at: usize) -> Token
-    requires { at ≤ length text.now }
-    ensures { Says text.now result (read_value (drop at text.now)) }
+#[tactic(auto, unfolding(crate::specs::Decimal::read_value))]
+pub fn read_value(text: &[u8]) -> Option<(u64, &[u8])>
+    ensures { field_of result ≡ Decimal.read_value text.now }
 {
-    let d = decimal_at(text, at);
-    match d {
-        Token::Value(v, next) => Token::Value(v, next),
-        Token::Departs => crate::token::hex_at(text, at),
-    }
+    read_decimal(text).or_else(|| crate::token::read_hex(text))
 }

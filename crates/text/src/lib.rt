@@ -21,52 +21,39 @@ pub fn number(bits: u64) -> f64
     f64::from_bits(bits)
 }
 
+// The bounds first, then the limits of the work and the tolerance.
 pub fn request(v: [u64; 16]) -> Request
     ensures { result ≡ request_in v }
 {
-    let bounds = [
-        number(v[0]),
-        number(v[1]),
-        number(v[2]),
-        number(v[3]),
-        number(v[4]),
-        number(v[5]),
-        number(v[6]),
-        number(v[7]),
-        number(v[8]),
-        number(v[9]),
-        number(v[10]),
-        number(v[11]),
-    ];
-    request::requested(&bounds, number(v[15]), v[12], v[13], v[14])
+    let numbers = v.map(number);
+    request::requested(&numbers[..12], numbers[15], v[12], v[13], v[14])
 }
 
 fn fitted(r: Request, litters: &[u32], out: &mut [u8]) -> usize
     requires { room ≤ length out.old }
-    ensures { (result ≡ length (fit_text (fit_of r litters.now))) × (out.new ≡ written out.old 0 (fit_text (fit_of r litters.now))) }
+    ensures length { result ≡ length (fit_text (fit_of r litters.now)) }
+    ensures text { out.new ≡ written out.old 0 (fit_text (fit_of r litters.now)) }
 {
     print::fit(fit::fit_probit_normal_binomial(r, litters), out)
 }
 
 // The answer's length; 0 where the buffer has not room for every answer, and then it is left as it was.
 pub fn answer(text: &[u8], out: &mut [u8]) -> usize
-    ensures value { length out.old < room → (result ≡ 0) × (out.new ≡ out.old) }
-    ensures value_2 { room ≤ length out.old → (result ≡ length (answer_text text.now)) × (out.new ≡ written out.old 0 (answer_text text.now)) }
-    ensures upper_bound { result ≤ room }
+    ensures no_room { length out.old < room → (result ≡ 0) × (out.new ≡ out.old) }
+    ensures answered { room ≤ length out.old → (result ≡ length (answer_text text.now)) × (out.new ≡ written out.old 0 (answer_text text.now)) }
+    ensures at_most { result ≤ room }
 {
     if out.len() < 512 {
         return 0;
     }
-    let mut litters = [0u32; 384];
-    let a = read::request(text, &mut litters);
-    if !a.fits {
-        return print::refusal(4, 0, a.line, out);
+    let mut litters = [0; 384];
+    match read::request(text, &mut litters) {
+        // 4 and 1: the numbers of Form and InvalidInput in an answer's text (docs/FORMAT.md).
+        Err(form) => print::refusal(4, 0, form.line, out),
+        Ok(asking) if 128 < asking.count => print::refusal(1, 0, 0, out),
+        Ok(asking) => {
+            let n = 3 * (asking.count as usize);
+            fitted(request(asking.values), &litters[..n], out)
+        }
     }
-    if 128 < a.count {
-        return print::refusal(1, 0, 0, out);
-    }
-    let v = a.values;
-    let r = request(v);
-    let n = 3 * (a.count as usize);
-    fitted(r, &litters[..n], out)
 }

@@ -6,19 +6,20 @@ ghost use Rattle.descent.specs.Descent.{rounds, allowance_of};
 ghost use Rattle.trial.specs.Judged.{norm_at_of, idle_of, judged_of};
 
 use descent::Trial;
+use step::Region;
 use value::Totals;
 
 pub mod watch;
 
 // The projected gradient's norm at a point.
-pub fn norm_at(lo: [f64; 4], hi: [f64; 4], x: [f64; 4], v: Totals) -> f64
-    ensures { result ≡ norm_at_of lo hi x v }
+pub fn norm_at(b: Region, x: [f64; 4], v: Totals) -> f64
+    ensures { result ≡ norm_at_of b.lo b.hi x v }
 {
-    let gradient = v.gradient;
-    step::norm(step::project(x, gradient, lo, hi))
+    step::norm(b.project(x, v.gradient))
 }
 
 // A candidate that wants no value: it does not go downhill, or is the point itself.
+#[tactic(auto, unfolding(crate::specs::Judged::idle_of))]
 pub fn idle(slope: f64) -> Trial
     ensures { result ≡ idle_of slope }
 {
@@ -34,6 +35,7 @@ fn allowance(nll: f64) -> f64
     32.0 * 2.220446049250313e-16 * (1.0 + num::abs(nll))
 }
 
+#[tactic(auto, unfolding(descent::specs::Descent::rounds))]
 fn is_rounding(nll: f64, slope: f64, next: f64, norm: f64, after: f64) -> bool
     ensures { result ≡ rounds nll slope next norm after }
 {
@@ -43,24 +45,17 @@ fn is_rounding(nll: f64, slope: f64, next: f64, norm: f64, after: f64) -> bool
 }
 
 // What the value c at the candidate `next` decides, from x with its value v.
-pub fn judged(
-    lo: [f64; 4],
-    hi: [f64; 4],
-    x: [f64; 4],
-    v: Totals,
-    next: [f64; 4],
-    c: Totals,
-) -> Trial
-    ensures { result ≡ judged_of lo hi x v next c }
+#[tactic(auto, unfolding(crate::specs::Judged::judged_of, descent::specs::Descent::decreases))]
+pub fn judged(b: Region, x: [f64; 4], v: Totals, next: [f64; 4], c: Totals) -> Trial
+    ensures { result ≡ judged_of b.lo b.hi x v next c }
 {
-    let gradient = v.gradient;
-    let slope = step::slope(gradient, next, x);
+    let slope = step::slope(v.gradient, next, x);
     let bound = v.nll + 1e-4 * slope;
     if c.nll <= bound {
         return Trial::ByDecrease(slope);
     }
-    let before = norm_at(lo, hi, x, v);
-    let after = norm_at(lo, hi, next, c);
+    let before = norm_at(b, x, v);
+    let after = norm_at(b, next, c);
     if is_rounding(v.nll, slope, c.nll, before, after) {
         return Trial::ByRounding(allowance(v.nll));
     }

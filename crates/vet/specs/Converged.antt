@@ -1,51 +1,53 @@
 -- A fit of ours that converged is accepted, with its own norm: what it reports lies in its box, and the objective there gives what is reported.
 -- And past the box a refusal of the objective is a Domain, with its reason.
-use Rattle.std.specs.Prelude.{◌≡◌, refl, true, ◌&&◌, List, [], ◌∷◌, ℕ, ◌≤◌, length, get_or, Float}
+use Rattle.std.specs.Prelude.{◌≡◌, refl, true, ◌&&◌, List, [], ◌∷◌, ℕ, ◌≤◌, length, get_or, Float, Result, Ok, Err}
 use Rattle.std.proofs.Math.Path.{ap}
-use Rattle.std.proofs.Common.{sym, ◌∙◌, arith, eq-eqb, lit<}
+use Rattle.std.proofs.Common.{sym, subst, ◌∙◌, arith, eq-eqb, lit<}
 use Rattle.std.specs.Float.{nan}
 use Rattle.std.specs.Float.Ieee.{le}
 use Rattle.num.specs.Both.{and_left, and_right}
 use Rattle.num.specs.F64.{bits_of}
 use Rattle.order.specs.Boxes.{four, Inside}
-use Rattle.work.specs.declared.Ending.{Ending}
-use Rattle.work.specs.declared.Ending.TheVariants.{Answered, InvalidInput, WorkBudget}
-use Rattle.work.specs.declared.Ending.TheVariants as ended
-use Rattle.work.specs.Ended.{is_refused}
-use Rattle.work.specs.Ended as ending
-use Rattle.work.specs.Work.{listed}
+use Rattle.work.specs.declared.Refusal as refusal
+use Rattle.work.specs.declared.Refusal.TheVariants as work
+use Rattle.work.specs.Refusal as reason
+use Rattle.work.specs.Answer.{outcome}
+use Rattle.work.specs.Ended.{Ended, done, stopped, short, invalid, domain}
+use Rattle.work.specs.Work.{listed, metered}
 use Rattle.work.specs.Metered.{split}
 use Rattle.work.specs.Given.{Always, holds, refuses, tested, passed}
-use Rattle.work.specs.Stops.{metered_invalid}
+use Rattle.work.specs.Stops.{of_metered}
 use Rattle.work.specs.Asks.{answered}
 use Rattle.legendre.specs.Legendre.{legendre_of}
 use Rattle.posterior.specs.Integrand.{at}
 use Rattle.objective.specs.declared.sum.Objective.{Objective}
+use Rattle.objective.specs.declared.sum.Refused as objective
 use Rattle.litters.specs.Valid.{valid_litters_of}
+use Rattle.value.specs.declared.Totals.{Totals}
 use Rattle.objective.specs.Point.{valid_point_of}
-use Rattle.objective.specs.Objective.{objective, limited_objective_of, objective_of}
+use Rattle.objective.specs.Objective.{objective, refused_of, told_result, limited_objective_of, objective_of}
 use Rattle.objective.specs.Reasons.{admitted_reasons, objective_domain, objective_never_short}
 use Rattle.objective.specs.Finite.{objective_known}
 use Rattle.objective.specs.Coordinates.{point_of}
-use Rattle.descent.specs.declared.Status.TheVariants.{NoStatus, Converged}
-use Rattle.descent.specs.Status as status
+use Rattle.descent.specs.declared.Status.TheVariants.{Converged}
 use Rattle.request.specs.declared.Request.{Request}
 use Rattle.request.specs.Request.{admitted_of, valid_limit, low_of, high_of}
 use Rattle.request.specs.Box.{admitted_litters}
 use Rattle.fit.specs.Valid.{inside_valid}
 use Rattle.drive.specs.Drive.{value_at}
 use Rattle.fit.specs.declared.report.Fit.{Fit}
-use Rattle.fit.specs.Fit.{Report, refused_of, fit, fit_of}
+use Rattle.fit.specs.Fit.{Report, fit, fit_of}
 use Rattle.fit.specs.Answers as answers
 use Rattle.fit.specs.Stops.{answered_stops}
 use Rattle.fit.specs.Restart.{reported_point, Gives, fit_restarts}
 use Rattle.fit.specs.Inside.{fit_asks}
 use Rattle.claim.specs.declared.Claim.{Claim}
-use Rattle.claim.specs.declared.Verdict.TheVariants.{Domain}
-use Rattle.claim.specs.Claim.{reason_of, point_in, in_box_of, same_bits_of, accepted_of, judged_of}
+use Rattle.claim.specs.declared.Refusal.{Refusal}
+use Rattle.claim.specs.declared.Refusal.TheVariants.{Domain}
+use Rattle.claim.specs.declared.Refused.{Refused}
+use Rattle.claim.specs.Claim.{number_of, reason_of, point_in, in_box_of, same_bits_of, by_objective, accepted_of, judged_of}
 use Rattle.vet.specs.Vet.{placed_of, vet_of}
-use Rattle.vet.specs.Accepted as accepted
-use Rattle.vet.specs.Accepted.{checked, there, different, facts_accept}
+use Rattle.vet.specs.Accepted.{checked, there, size_of, no_answer, facts_accept}
 
 -- ---- the box's test is what is known of a point in the box
 inside_boxed : (lo hi x : List Float) → Inside lo hi x → in_box_of (point_of x) lo hi ≡ true
@@ -77,16 +79,6 @@ same_self x = eq-eqb (bits_of x) (bits_of x) refl
 abbrev pub claim_in : Fit → Claim
 claim_in f = record { means = f.means; variances = f.variances; nll = f.nll }
 
--- a refusal has no status
-converged_answered : (f : Fit) → (is_refused f.end ≡ true → f ≡ refused_of f.end f.quadrature.0) → f.status ≡ Converged → f.end ≡ Answered
-converged_answered f g h =
-    split (is_refused f.end)
-    (λ t.
-    let e : NoStatus ≡ Converged = sym (ap (λ (x : Fit). x.status) (g t)) ∙ h in
-    let z : ◌≡◌ {A = ℕ} 0 1 = ap status.number_of e in
-    absurd (omega arith))
-    (λ t. accepted.answered f.end t)
-
 module _ (r : Request) (ls : List ℕ) where
   -- ---- what a fit reports lies in its box
   abbrev ReportBoxed : Report → Type 0
@@ -99,31 +91,35 @@ module _ (r : Request) (ls : List ℕ) where
       (λ t. passed (answered (λ q. value_at legendre_of ls q.at) (λ q b. objective_known legendre_of q.at ls) (fit_asks r ls t)) (λ d a. holds (inside_boxed (low_of r) (high_of r) d.x a.inside.inside)))
       (λ t. refuses)
 
-  pub fit_boxed : (fit_of r ls).end ≡ Answered → in_box_of (reported_point (fit_of r ls)) (low_of r) (high_of r) ≡ true
-  fit_boxed h =
-      let a = answers.answered r ls (λ e. tt) reports_boxed h in
-      rw (ap (λ (f : Fit). f.means) a.is, ap (λ (f : Fit). f.variances) a.is) a.has
+  pub fit_boxed : (f : Fit) → fit_of r ls ≡ Ok f → in_box_of (reported_point f) (low_of r) (high_of r) ≡ true
+  fit_boxed f h =
+      let a = answers.answered r ls (λ e. tt) reports_boxed f h in
+      let P : Fit → Type 0 = λ g. in_box_of (reported_point g) (low_of r) (high_of r) ≡ true in
+      subst P (sym a.is) a.has
 
-  passes : (fit_of r ls).end ≡ Answered → checked r ls ≡ true
-  passes h =
-      split (checked r ls) (λ t. t)
-      (λ t.
-      let e : InvalidInput ≡ Answered = sym (ap (λ (f : Fit). f.end) (answers.unfit_refused r ls t)) ∙ h in
-      let z : ◌≡◌ {A = ℕ} 1 0 = ap ending.number_of e in
-      absurd (omega arith))
+  passes : (f : Fit) → fit_of r ls ≡ Ok f → checked r ls ≡ true
+  passes f h = split (checked r ls) (λ t. t) (λ t. no_answer (sym (answers.unfit_refused r ls t) ∙ h))
 
   by_report :
       (f : Fit) → checked r ls ≡ true → in_box_of (reported_point f) (low_of r) (high_of r) ≡ true → Gives r ls f (objective_of (reported_point f) ls) → le f.norm r.tolerance ≡ true →
       vet_of r ls (claim_in f) ≡ accepted_of (length (listed at (objective legendre_of (reported_point f) ls))) f.nll f.norm
   by_report f p i g n =
-      let a = facts_accept r ls (claim_in f) (record { passes = p; inside = i; answers = g.answered; likelihood = rw g.nll (same_self f.nll); norm = rw g.norm n }) in
+      let a = facts_accept r ls (claim_in f) g.o (record { passes = p; inside = i; answers = g.answered; likelihood = rw g.nll (same_self f.nll); norm = rw g.norm n }) in
       rw (g.count, g.nll, g.norm) at a
 
   -- A Converged fit of ours is accepted, with its own likelihood and norm; the count is the objective's own there.
-  pub converged_accepted : (fit_of r ls).status ≡ Converged → vet_of r ls (claim_in (fit_of r ls)) ≡ accepted_of (length (listed at (objective legendre_of (reported_point (fit_of r ls)) ls))) (fit_of r ls).nll (fit_of r ls).norm
-  converged_accepted h =
-      let a = converged_answered (fit_of r ls) (answers.refused_is r ls) h in
-      by_report (fit_of r ls) (passes a) (fit_boxed a) (fit_restarts r ls a) ((answered_stops r ls a).converged.0 h)
+  pub converged_accepted : (f : Fit) → fit_of r ls ≡ Ok f → f.status ≡ Converged → vet_of r ls (claim_in f) ≡ accepted_of (length (listed at (objective legendre_of (reported_point f) ls))) f.nll f.norm
+  converged_accepted f a h = by_report f (passes f a) (fit_boxed f a) (fit_restarts r ls f a) ((answered_stops r ls f a).converged.0 h)
+
+err_inj : {T E : Type 0} {a b : E} → ◌≡◌ {A = Result T E} (Err a) (Err b) → a ≡ b
+err_inj h = cc
+
+-- which computation is refused as InvalidInput
+is_invalid : (e : Ended Totals) (n m : ℕ) → told_result (outcome e) n ≡ Err (refused_of work.InvalidInput m) → e ≡ stopped invalid
+is_invalid (done t) n m h = no_answer (sym h)
+is_invalid (stopped invalid) n m h = refl
+is_invalid (stopped (domain r)) n m h = let z : ◌≡◌ {A = ℕ} 2 1 = ap (λ (r : objective.Refused). reason.number_of r.refusal) (err_inj h) in absurd (omega arith)
+is_invalid short n m h = let z : ◌≡◌ {A = ℕ} 3 1 = ap (λ (r : objective.Refused). reason.number_of r.refusal) (err_inj h) in absurd (omega arith)
 
 module _ (r : Request) (ls : List ℕ) (c : Claim) where
   -- ---- the objective's checks pass wherever the box's test does
@@ -132,37 +128,51 @@ module _ (r : Request) (ls : List ℕ) (c : Claim) where
       let h = and_right (valid_limit r.quadrature.0) (admitted_of r ls) p in
       rw (inside_valid r ls h (point_in c) (boxed_inside (low_of r) (high_of r) (point_in c) i), admitted_litters r ls h)
 
-  never_invalid : (valid_point_of (point_in c) && valid_litters_of ls) ≡ true → (there r ls c).end ≡ InvalidInput → ⊥
+  never_invalid : (valid_point_of (point_in c) && valid_litters_of ls) ≡ true → (n : ℕ) → there r ls c ≡ Err (refused_of work.InvalidInput n) → ⊥
   unfolding objective_of limited_objective_of
-  never_invalid a e = metered_invalid at 8388608 0 (admitted_reasons legendre_of (point_in c) ls a) e
+  never_invalid a n e = of_metered at 8388608 0 invalid (admitted_reasons legendre_of (point_in c) ls a) (is_invalid (metered at 8388608 0 (objective legendre_of (point_in c) ls)).ended _ n e)
 
-  a_domain : (e : Ending) → (e ≡ InvalidInput → ⊥) → (e ≡ WorkBudget → ⊥) → is_refused e ≡ true → e ≡ ended.Domain (ending.reason_of e)
-  a_domain ended.Answered h k t = cc
-  a_domain ended.InvalidInput h k t = absurd (h refl)
-  a_domain (ended.Domain n) h k t = refl
-  a_domain ended.WorkBudget h k t = absurd (k refl)
+  different : {A : Type 0} (v w : Refusal) → v ≡ w → (number_of v ≡ number_of w → ⊥) → A
+  different v w e h = absurd (h (ap number_of e))
 
-  judged_domain : (lo hi : List Float) (tolerance : Float) (x : List Float) (claimed : Float) (o : Objective) (n : ℕ) → (judged_of lo hi tolerance x claimed o).verdict ≡ Domain n → (is_refused o.end ≡ true) × (ending.reason_of o.end ≡ n)
+  -- a Domain of the objective's part is the objective's own refusal
+  judged_domain :
+      (lo hi : List Float) (tolerance : Float) (x : List Float) (claimed : Float) (p : Result Objective objective.Refused) (e : Refused) (n : ℕ) → judged_of lo hi tolerance x claimed p ≡ Err e → e.refusal ≡ Domain n →
+      (d : objective.Refused) × (p ≡ Err d) × (by_objective d ≡ e)
   unfolding judged_of
-  judged_domain lo hi tolerance x claimed o n h =
-      split (is_refused o.end)
-      (λ t. (t, ap reason_of (rw t at h)))
-      (λ t. split (same_bits_of o.v.nll claimed)
-      (λ s. split (le (accepted.size_of lo hi tolerance x claimed o) tolerance)
-      (λ l. different _ _ (rw (t, s, l) at h) (λ e. omega arith))
-      (λ l. different _ _ (rw (t, s, l) at h) (λ e. omega arith)))
-      (λ s. different _ _ (rw (t, s) at h) (λ e. omega arith)))
+  judged_domain lo hi tolerance x claimed (Err d) e n h k = (d, refl, err_inj h)
+  judged_domain lo hi tolerance x claimed (Ok o) e n h k =
+      split (same_bits_of o.v.nll claimed)
+      (λ s. split (le (size_of lo hi tolerance x claimed o) tolerance)
+      (λ l. no_answer (sym (rw (s, l) at h)))
+      (λ l. different _ _ (ap (λ (r : Refused). r.refusal) (err_inj (rw (s, l) at h)) ∙ k) (λ e. omega arith)))
+      (λ s. different _ _ (ap (λ (r : Refused). r.refusal) (err_inj (rw s at h)) ∙ k) (λ e. omega arith))
 
-  -- A Domain is the objective's own, with its reason, 1 to 6: the objective in the box fails no check of its own, and meets no limit.
-  pub vet_domain : (n : ℕ) → (vet_of r ls c).verdict ≡ Domain n → ((there r ls c).end ≡ ended.Domain n) × (1 ≤ n) × (n ≤ 6)
+  -- the reason of a refusal that is neither of the other two
+  a_domain : (e : refusal.Refusal) (m n : ℕ) → (e ≡ work.InvalidInput → ⊥) → (e ≡ work.WorkBudget → ⊥) → reason.reason_of e ≡ n → e ≡ work.Domain n
+  a_domain work.InvalidInput m n h k i = absurd (h refl)
+  a_domain (work.Domain r) m n h k i = ap work.Domain i
+  a_domain work.WorkBudget m n h k i = absurd (k refl)
+
+  by_refusal :
+      (n : ℕ) (e : Refused) → (valid_point_of (point_in c) && valid_litters_of ls) ≡ true → e.refusal ≡ Domain n → (d : objective.Refused) → there r ls c ≡ Err d → by_objective d ≡ e →
+      (there r ls c ≡ Err (refused_of (work.Domain n) e.used.0)) × (1 ≤ n) × (n ≤ 6)
+  by_refusal n e a k d p q =
+      let i : reason.reason_of d.refusal ≡ n = ap reason_of (ap (λ (r : Refused). r.refusal) q ∙ k) in
+      let s = a_domain d.refusal d.used.0 n (λ t. never_invalid a d.used.0 (p ∙ ap (λ v. Err (refused_of v d.used.0)) t)) (λ t. objective_never_short (point_in c) ls d.used.0 (p ∙ ap (λ v. Err (refused_of v d.used.0)) t)) i in
+      let u : d.used.0 ≡ e.used.0 = ap (λ (r : Refused). r.used.0) q in
+      let t : there r ls c ≡ Err (refused_of (work.Domain n) e.used.0) = rw u at (p ∙ ap (λ v. Err (refused_of v d.used.0)) s) in
+      let w = objective_domain (point_in c) ls n e.used.0 t in
+      (t, w.0, w.1)
+
+  -- A Domain is the objective's own, with its reason, 1 to 6, and its count: the objective in the box fails no check of its own, and meets no limit.
+  pub vet_domain : (n : ℕ) (e : Refused) → vet_of r ls c ≡ Err e → e.refusal ≡ Domain n → (there r ls c ≡ Err (refused_of (work.Domain n) e.used.0)) × (1 ≤ n) × (n ≤ 6)
   unfolding vet_of placed_of
-  vet_domain n h =
+  vet_domain n e h k =
       split (checked r ls)
       (λ p. split (in_box_of (point_in c) (low_of r) (high_of r))
       (λ i.
-      let j = judged_domain (low_of r) (high_of r) r.tolerance (point_in c) c.nll (there r ls c) n (rw (p, i) at h) in
-      let e = a_domain (there r ls c).end (never_invalid (admitted p i)) (objective_never_short (point_in c) ls) j.0 ∙ ap ended.Domain j.1 in
-      let w = objective_domain (point_in c) ls n e in
-      (e, w.0, w.1))
-      (λ i. different _ _ (rw (p, i) at h) (λ e. omega arith)))
-      (λ p. different _ _ (rw p at h) (λ e. omega arith))
+      let j = judged_domain (low_of r) (high_of r) r.tolerance (point_in c) c.nll (there r ls c) e n (rw (p, i) at h) k in
+      by_refusal n e (admitted p i) k j.0 j.1 j.2)
+      (λ i. different _ _ (ap (λ (r : Refused). r.refusal) (err_inj (rw (p, i) at h)) ∙ k) (λ e. omega arith)))
+      (λ p. different _ _ (ap (λ (r : Refused). r.refusal) (err_inj (rw p at h)) ∙ k) (λ e. omega arith))

@@ -8,7 +8,7 @@ use Rattle.request.specs.declared.Request.{Request}
 use Rattle.request.specs.Request.{valid_limit}
 use Rattle.request.specs.Checks.{not_admitted}
 use Rattle.claim.specs.declared.Claim.{Claim}
-use Rattle.claim.specs.declared.Verdict.TheVariants.{InvalidInput}
+use Rattle.claim.specs.declared.Refusal.TheVariants.{InvalidInput}
 use Rattle.claim.specs.Claim.{refusal_of}
 use Rattle.vet.specs.Vet.{vet_of}
 use Rattle.vet.specs.Accepted.{checked}

@@ -1,14 +1,22 @@
 // A claim vetted as a host asks for it: five numbers for the claim, the litters as they are lent, the verdict put into buffers.
 #![tactic(auto)]
 
-ghost use Rattle.std.specs.Prelude.{◌≡◌, ◌≤◌, length};
+ghost use Rattle.std.specs.Prelude.{◌≡◌, ◌≤◌, length, take};
 ghost use Rattle.store.specs.Given.{given};
+ghost use Rattle.litters.specs.Table.{handed_on_of};
 ghost use Rattle.claim.specs.Claim.{claim_from};
 ghost use Rattle.claim.specs.Give.{put_vetted_of};
 ghost use Rattle.vet.specs.Vet.{vet_of};
 
-use claim::{Claim, Vetted};
+use claim::Claim;
 use request::Request;
+
+// The litters that go to the core: so those of a run that is too long are not walked along.
+pub fn handed_on(litters: &[u32]) -> &[u32]
+    ensures { result.now ≡ take (handed_on_of (length litters.now)) litters.now }
+{
+    &litters[..litters::table::handed_on(litters.len())]
+}
 
 fn claim_of(p: &[f64]) -> Claim
     requires { length p.now ≡ 5 }
@@ -21,14 +29,6 @@ fn claim_of(p: &[f64]) -> Claim
     }
 }
 
-// So the litters of a run that is too long are not walked along.
-fn vetted(r: Request, litters: &[u32], c: Claim) -> Vetted
-    ensures { (result ≡ vet_of r litters.now c) × (litters.now ≡ litters.now) }
-{
-    let k = litters::table::handed_on(litters.len());
-    vet::vet(r, &litters[..k], c)
-}
-
 // Two means, two variances and the likelihood are claimed. Answers the verdict's number.
 pub fn vet_in(
     r: Request,
@@ -37,11 +37,11 @@ pub fn vet_in(
     numbers: &mut [f64],
     counts: &mut [u64],
 ) -> u64
-    requires { (length claimed.now ≡ 5) × (2 ≤ length numbers.old) × (2 ≤ length counts.old) }
-    ensures counts_after { given result numbers.new counts.new ≡ put_vetted_of (vet_of r litters.now (claim_from claimed.now)) numbers.old counts.old }
-    ensures litters_value { (litters.now ≡ litters.now) × (claimed.now ≡ claimed.now) }
+    requires claim { length claimed.now ≡ 5 }
+    requires numbers { 2 ≤ length numbers.old }
+    requires counts { 2 ≤ length counts.old }
+    ensures { given result numbers.new counts.new ≡ put_vetted_of (vet_of r litters.now (claim_from claimed.now)) numbers.old counts.old }
 {
-    let c = claim_of(claimed);
-    let v = vetted(r, litters, c);
+    let v = vet::vet(r, handed_on(litters), claim_of(claimed));
     claim::give::put_vetted(v, numbers, counts)
 }

@@ -1,10 +1,11 @@
 -- A verdict's text, and the whole program: the bytes of a request with a claim to those of the verdict.
-use Rattle.std.specs.Prelude.{cond, List, [], ◌∷◌, ℕ, eqb, get_or, Float}
+use Rattle.std.specs.Prelude.{List, [], ◌∷◌, ℕ, get_or, Float, Result, Ok, Err}
 use Rattle.num.specs.F64.{bits, bits_of}
 use Rattle.template.specs.Template.{ascii, render}
 use Rattle.print.specs.Answer.{refusal_text}
 use Rattle.text.specs.Answer.{request_in, litters_of}
 use Rattle.claim.specs.declared.Claim.{Claim}
+use Rattle.claim.specs.declared.Refused.{Refused}
 use Rattle.claim.specs.declared.Vetted.{Vetted}
 use Rattle.claim.specs.Claim.{number_of, reason_of, claim_from}
 use Rattle.vet.specs.Vet.{vet_of}
@@ -21,12 +22,10 @@ claim_in us = claim_from (number us 0 ∷ number us 1 ∷ number us 2 ∷ number
 unfoldable pub accepted_text : ℕ → ℕ → ℕ → List ℕ
 accepted_text count nll norm = render (ascii "accepted # % %\n") (count ∷ nll ∷ norm ∷ [])
 
--- an acceptance has number 0; a refusal is its number, its count and its reason, as a fit's is
-unfoldable pub vetted_text : Vetted → List ℕ
-vetted_text v =
-    cond (eqb (number_of v.verdict) 0)
-    (accepted_text v.used.0 (bits_of v.nll) (bits_of v.norm))
-    (refusal_text (number_of v.verdict) v.used.0 (reason_of v.verdict))
+-- a refusal is its number, its count and its reason, as a fit's is
+unfoldable pub vetted_text : Result Vetted Refused → List ℕ
+vetted_text (Ok v) = accepted_text v.used.0 (bits_of v.nll) (bits_of v.norm)
+vetted_text (Err e) = refusal_text (number_of e.refusal) e.used.0 (reason_of e.refusal)
 
 abbrev pub vet_to : Claims → List ℕ
 vet_to (departed line) = refusal_text 4 0 line

@@ -1,7 +1,6 @@
 -- More than 128 litters are InvalidInput, whatever is claimed; and every verdict fits the buffer.
-use Rattle.std.specs.Prelude.{◌≡◌, List, [], ◌∷◌, ℕ, ◌≤◌, ◌<◌, eqb, length}
+use Rattle.std.specs.Prelude.{◌≡◌, List, [], ◌∷◌, ℕ, ◌≤◌, ◌<◌, length, Result, Ok, Err}
 use Rattle.std.proofs.Common.{arith}
-use borrow.Table.Steps.{cases}
 use Rattle.num.specs.F64.{bits_of}
 use Rattle.template.specs.Template.{ascii}
 use Rattle.render.specs.Width.{width, length_render}
@@ -10,6 +9,7 @@ use Rattle.print.specs.Answer.{refusal_text}
 use Rattle.print.specs.Room.{room, refusal_fits}
 use Rattle.text.specs.Answer.{request_in, litters_of}
 use Rattle.text.specs.Answered.{count_litters}
+use Rattle.claim.specs.declared.Refused.{Refused}
 use Rattle.claim.specs.declared.Vetted.{Vetted}
 use Rattle.claim.specs.Claim.{number_of, reason_of}
 use Rattle.vet.specs.Vet.{vet_of}
@@ -25,12 +25,10 @@ pub accepted_fits : (count nll norm : ℕ) → length (accepted_text count nll n
 unfolding accepted_text width
 accepted_fits count nll norm = length_render (ascii "accepted # % %\n") (count ∷ nll ∷ norm ∷ [])
 
-pub vetted_fits : (v : Vetted) → length (vetted_text v) ≤ room
+pub vetted_fits : (v : Result Vetted Refused) → length (vetted_text v) ≤ room
 unfolding vetted_text
-vetted_fits v =
-    cases (eqb (number_of v.verdict) 0)
-    (λ b. rw b (omega (arith, accepted_fits v.used.0 (bits_of v.nll) (bits_of v.norm))))
-    (λ b. rw b (omega (arith, refusal_fits (number_of v.verdict) v.used.0 (reason_of v.verdict))))
+vetted_fits (Ok v) = omega (arith, accepted_fits v.used.0 (bits_of v.nll) (bits_of v.norm))
+vetted_fits (Err e) = omega (arith, refusal_fits (number_of e.refusal) e.used.0 (reason_of e.refusal))
 
 by_claims : (q : Claims) → length (vet_to q) ≤ room
 by_claims (departed line) = omega (arith, refusal_fits 4 0 line)

@@ -1,9 +1,9 @@
 -- What every answer of a computation has, where G is what is known of the value of each evaluation; a computation that stops by itself gives no answer.
-use Rattle.std.specs.Prelude.{◌≡◌, refl, Bool, true, false, cond}
+use Rattle.std.specs.Prelude.{◌≡◌, refl, Bool, true, false, cond, Ok}
 use Prim.Native.Nat.{ℕ, zero, suc, ◌-◌}
 use Rattle.work.specs.Impossible.{impossible}
-use Rattle.work.specs.declared.Ending.TheVariants.{Answered}
-use Rattle.work.specs.Ended.{Why, done, end_of, value_or, answered_value}
+use Rattle.work.specs.Ended.{Why, done}
+use Rattle.work.specs.Answer.{outcome, answered_value}
 use Rattle.work.specs.Work.{Work, ret, stop, ask, ◌>>=◌, run, run_l, metered}
 use Rattle.work.specs.Metered.{split, metered_is}
 
@@ -55,9 +55,9 @@ module _ {E X A : Type 0} {G : E → X → Type 0} {P : A → Type 0} where
     pub of_metered : (l u : ℕ) {w : Work E X A} (a : A) → Given G P w → (metered at l u w).ended ≡ done a → P a
     of_metered l u {w} a h e = of_run_l (l - u) a h (rw (metered_is at l u w) at e)
 
-    -- of the value in the record that code returns, where it answers
-    pub of_answer : (l u : ℕ) {w : Work E X A} (d : A) → Given G P w → end_of (metered at l u w).ended ≡ Answered → P (value_or d (metered at l u w).ended)
-    of_answer l u {w} d h e = of_metered l u _ h (answered_value d (metered at l u w).ended e)
+    -- of the value that code answers
+    pub of_answer : (l u : ℕ) {w : Work E X A} (a : A) → Given G P w → outcome (metered at l u w).ended ≡ Ok a → P a
+    of_answer l u {w} a h e = of_metered l u a h (answered_value (metered at l u w).ended a e)
 
 -- what every value has, the answers of every computation have
 pub anything : {E X A : Type 0} {G : E → X → Type 0} {P : A → Type 0} → ((a : A) → P a) → (w : Work E X A) → Given G P w

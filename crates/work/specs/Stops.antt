@@ -1,12 +1,13 @@
 -- Why a computation may stop by itself, whatever the values of its evaluations are; and the reasons that a Domain may have.
-use Rattle.std.specs.Prelude.{◌≡◌, refl, Bool, true, false, cond}
+use Rattle.std.specs.Prelude.{◌≡◌, refl, Bool, true, false, cond, Err}
 use Prim.Native.Nat.{ℕ, zero, suc, ◌-◌, ◌≤◌}
 use Rattle.std.proofs.Common.{arith}
 use Rattle.work.specs.Impossible.{impossible}
-use Rattle.work.specs.declared.Ending.TheVariants.{InvalidInput, Domain, WorkBudget}
-use Rattle.work.specs.Ended.{Why, invalid, domain, Ended, done, stopped, short, end_of}
+use Rattle.work.specs.declared.Refusal.TheVariants.{InvalidInput, Domain, WorkBudget}
+use Rattle.work.specs.Ended.{Why, invalid, domain, Ended, done, stopped, short}
 use Rattle.work.specs.Work.{Work, ret, stop, ask, ◌>>=◌, run, run_l, metered}
 use Rattle.work.specs.Metered.{metered_is}
+use Rattle.work.specs.Answer.{outcome}
 
 pub data Stops {E X A : Type 0} (P : Why → Type 0) : Work E X A → Type 0 where
   answers : {a : A} → Stops P (ret a)
@@ -67,28 +68,28 @@ pub more_reasons : (n m : ℕ) → n ≤ m → (r : Why) → Reasoned n r → Re
 more_reasons n m l invalid h = h
 more_reasons n m l (domain r) h = (h.0, omega (arith, h.1, l))
 
-is_domain : {A : Type 0} (e : Ended A) (r : ℕ) → end_of e ≡ Domain r → e ≡ stopped (domain r)
+is_domain : {A : Type 0} (e : Ended A) (r : ℕ) → outcome e ≡ Err (Domain r) → e ≡ stopped (domain r)
 is_domain (done a) r h = impossible (cc)
 is_domain (stopped invalid) r h = impossible (cc)
 is_domain (stopped (domain s)) r h = let q : s ≡ r = cc in rw q
 is_domain short r h = impossible (cc)
 
-is_invalid : {A : Type 0} (e : Ended A) → end_of e ≡ InvalidInput → e ≡ stopped invalid
+is_invalid : {A : Type 0} (e : Ended A) → outcome e ≡ Err InvalidInput → e ≡ stopped invalid
 is_invalid (done a) h = impossible (cc)
 is_invalid (stopped invalid) h = refl
 is_invalid (stopped (domain s)) h = impossible (cc)
 is_invalid short h = impossible (cc)
 
 module _ {E X A : Type 0} (at : E → X) (l u : ℕ) {w : Work E X A} where
-  pub metered_domain : {P : Why → Type 0} (r : ℕ) → Stops P w → end_of (metered at l u w).ended ≡ Domain r → P (domain r)
+  pub metered_domain : {P : Why → Type 0} (r : ℕ) → Stops P w → outcome (metered at l u w).ended ≡ Err (Domain r) → P (domain r)
   metered_domain r h e = of_metered at l u (domain r) h (is_domain (metered at l u w).ended r e)
 
-  pub metered_invalid : {P : Why → Type 0} → Stops P w → end_of (metered at l u w).ended ≡ InvalidInput → P invalid
+  pub metered_invalid : {P : Why → Type 0} → Stops P w → outcome (metered at l u w).ended ≡ Err InvalidInput → P invalid
   metered_invalid h e = of_metered at l u invalid h (is_invalid (metered at l u w).ended e)
 
--- ---- WorkBudget is the limit's ending alone
+-- ---- WorkBudget is the limit's refusal alone
 
-pub run_not_short : {E X A : Type 0} (at : E → X) (w : Work E X A) → end_of (run at w) ≡ WorkBudget → ⊥
+pub run_not_short : {E X A : Type 0} (at : E → X) (w : Work E X A) → outcome (run at w) ≡ Err WorkBudget → ⊥
 unfolding run
 run_not_short at (ret a) e = impossible (cc)
 run_not_short at (stop invalid) e = impossible (cc)

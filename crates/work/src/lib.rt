@@ -1,48 +1,38 @@
-// How an answer ends, the three counters, and the definitions that count work.
+// Why there is no answer, the three counters, and the meter that holds a limit.
 #![tactic(auto)]
 
 ghost use Rattle.std.specs.Prelude.{◌≡◌};
-ghost use Rattle.work.specs.Ended.{is_refused, number_of, reason_of};
+ghost use Rattle.work.specs.Meter.{counts};
+ghost use Rattle.work.specs.Refusal.{number_of, reason_of};
 
-// An answer's ending. A `Domain` carries its reason, 1 to 6.
-#[derive(Clone, Copy)]
-pub enum Ending {
-    Answered,
+// Why there is no answer. A `Domain` carries its reason, 1 to 6: a number, as the definitions' `domain` and the theorems
+// that bound it (`fit_domain`, `objective_domain`, `row_domain`) have it.
+#[derive(Clone, Copy, PartialEq, Eq)]
+pub enum Refusal {
     InvalidInput,
     Domain(u64),
     WorkBudget,
 }
 
-pub fn refused(e: Ending) -> bool
-    ensures { result ≡ is_refused e }
-{
-    match e {
-        Ending::Answered => false,
-        Ending::InvalidInput => true,
-        Ending::Domain(_) => true,
-        Ending::WorkBudget => true,
+impl Refusal {
+    pub fn number(self) -> u64
+        ensures { result ≡ number_of self }
+    {
+        match self {
+            Refusal::InvalidInput => 1,
+            Refusal::Domain(_) => 2,
+            Refusal::WorkBudget => 3,
+        }
     }
-}
 
-pub fn number(e: Ending) -> u64
-    ensures { result ≡ number_of e }
-{
-    match e {
-        Ending::Answered => 0,
-        Ending::InvalidInput => 1,
-        Ending::Domain(_) => 2,
-        Ending::WorkBudget => 3,
-    }
-}
-
-pub fn reason(e: Ending) -> u64
-    ensures { result ≡ reason_of e }
-{
-    match e {
-        Ending::Answered => 0,
-        Ending::InvalidInput => 0,
-        Ending::Domain(r) => r,
-        Ending::WorkBudget => 0,
+    // 0 for what is no `Domain`.
+    pub fn reason(self) -> u64
+        ensures { result ≡ reason_of self }
+    {
+        match self {
+            Refusal::Domain(r) => r,
+            _ => 0,
+        }
     }
 }
 
@@ -55,3 +45,23 @@ pub struct Iterations(pub u64);
 
 #[derive(Clone, Copy)]
 pub struct QuadratureEvaluations(pub u64);
+
+// The evaluations made, and the most that may be made.
+#[derive(Clone, Copy)]
+pub struct Meter {
+    pub used: QuadratureEvaluations,
+    pub limit: QuadratureEvaluations,
+}
+
+impl Meter {
+    // One more, where the limit leaves it.
+    pub fn count(&mut self) -> Result<(), Refusal>
+        ensures { counts self.old result self.new }
+    {
+        if self.used.0 < self.limit.0 {
+            self.used.0 += 1;
+            return Ok(());
+        }
+        Err(Refusal::WorkBudget)
+    }
+}

@@ -1,49 +1,53 @@
 -- The answers for `holds`.
-use Prim.Native.Nat.{◌+◌}
+use Rattle.std.proofs.Common.{◌≡◌, ◌+◌, ◌<◌, ap, not, arith}
 use borrow.Author.Tests.{not-false}
-use Rattle.num.specs.Choose.{choose}
-use Rattle.num.specs.Every.{every_turns, every_ends}
-use Rattle.archive.specs.Counts.{capacity}
-use Rattle.archive.specs.Most.{raised, none_below}
-use Rattle.archive_check.proofs.Laws.{none_yet, counts_next, totals_at, invalid_litter, wrong_totals}
 use native.Mathlib.Nat.{sub-zero}
-use native.Mathlib.Omega.{arith}
-use borrow.Author.Rules.{rules}
-use mathlib.Core.Path.{ap}
-use mathlib.Core.Bool.{not}
+use Rattle.num.specs.Every.{every_turns, every_ends}
+use Rattle.num.specs.Choose.{choose}
+use Rattle.summary.specs.Most.{capacity}
+use Rattle.summary.specs.Both.{both_of, both_none_is, none_below, raised}
+use Rattle.archive.specs.Layout.{valid_of, count_in}
+use Rattle.archive.specs.Counts.{litter_in}
+use Rattle.archive_check.proofs.Laws.{none_yet, counts_next, totals_at, invalid_litter, wrong_totals}
 use Rattle.archive_check.proofs.holds.Goals as goal
 
 pub loop-i-init : goal.loop-i-init
-loop-i-init c = (omega arith, none_below _ 1 c.none-c.ensures, none_yet _ _ c.none-c.ensures, rw (sub-zero _))
+loop-i-init c =
+    let e = both_none_is c.default-counts.result c.default-counts.ensures in
+    record { below = none_below _ 1 e; counted = none_yet _ _ e; every = rw (sub-zero _) }
 
-pub valid-requires : goal.valid-requires
-valid-requires c = omega arith
+pub returns-then-not-is_valid : goal.returns-then-not-is_valid
+returns-then-not-is_valid c =
+    let valid : c.is_valid.result ≡ valid_of c.args.archive.now.bytes.now c.loop-i.i = rw c.litter-litter.ensures at c.is_valid.ensures in
+    let here : c.loop-i.i < count_in c.args.archive.now.bytes.now = omega (arith, c.count-i-end.ensures) in
+    let every = c.loop-i.invariant.every in
+    search (invalid_litter, choose)
 
-pub returns-then-not-valid : goal.returns-then-not-valid
-returns-then-not-valid c = search (invalid_litter, choose)
-
-pub after-d-requires : goal.after-d-requires
-after-d-requires c = let l = c.loop-i in (raised _ (l.i + 1) capacity (omega arith) l.invariant.1, omega arith)
-
-pub overflow_add-i : goal.overflow_add-i
-overflow_add-i c = omega arith
-
-pub totals_hold-requires : goal.totals_hold-requires
-totals_hold-requires c = (search rules, omega arith, omega arith)
+pub with-counts-requires : goal.with-counts-requires
+with-counts-requires c = raised _ (c.loop-i.i + 1) capacity (omega arith) c.loop-i.invariant.below
 
 pub returns-then-not-totals_hold : goal.returns-then-not-totals_hold
-returns-then-not-totals_hold c = search (wrong_totals, choose) fits 8000 depth 8
-
-pub overflow_add-i-in-loop-i : goal.overflow_add-i-in-loop-i
-overflow_add-i-in-loop-i c = omega arith
-
-pub loop-i-smaller : goal.loop-i-smaller
-loop-i-smaller c = omega arith
+returns-then-not-totals_hold c =
+    let valid : c.is_valid.result ≡ valid_of c.args.archive.now.bytes.now c.loop-i.i = rw c.litter-litter.ensures at c.is_valid.ensures in
+    let more : c.with-counts.result ≡ both_of c.loop-i.counts (litter_in c.args.archive.now.bytes.now c.loop-i.i) = rw c.litter-litter.ensures at c.with-counts.ensures.counts in
+    let here : c.loop-i.i < count_in c.args.archive.now.bytes.now = omega (arith, c.count-i-end.ensures) in
+    let every = c.loop-i.invariant.every in
+    let counted = c.loop-i.invariant.counted in
+    search (wrong_totals, choose) fits 8000 depth 8
 
 pub loop-i-preserved : goal.loop-i-preserved
 loop-i-preserved c =
     let l = c.loop-i in
-    (omega arith, c.after-d.ensures.1 (l.i + 1) l.invariant.1, search counts_next, every_turns _ _ _ _ l.invariant.3 _ c.loop-i-test.true (totals_at _ _ _ _ l.invariant.2 c.after-d.ensures.0 _ _ c.valid.ensures (not-false _ (ap not c.if-not-valid.false)) c.totals_hold.ensures) (not-false _ (ap not c.if-not-totals_hold.false)))
+    let here : c.loop-i.i < count_in c.args.archive.now.bytes.now = omega (arith, c.count-i-end.ensures) in
+    let valid : c.is_valid.result ≡ valid_of c.args.archive.now.bytes.now l.i = rw c.litter-litter.ensures at c.is_valid.ensures in
+    let more : c.with-counts.result ≡ both_of l.counts (litter_in c.args.archive.now.bytes.now l.i) = rw c.litter-litter.ensures at c.with-counts.ensures.counts in
+    let is_valid = not-false _ (ap not c.if-not-is_valid.false) in
+    let hold = not-false _ (ap not c.if-not-totals_hold.false) in
+    record {
+      below = c.with-counts.ensures.grown (l.i + 1) l.invariant.below;
+      counted = counts_next _ _ _ _ l.invariant.counted more;
+      every = every_turns _ _ _ _ l.invariant.every _ here (totals_at _ _ _ _ l.invariant.counted more _ _ valid is_valid c.totals_hold.ensures) hold;
+    }
 
 pub returns : goal.returns
-returns c = search every_ends
+returns c = every_ends _ _ _ _ c.loop-i.invariant.every (omega (arith, c.count-i-end.ensures))

@@ -1,12 +1,8 @@
--- `next_64` meets its contract: c is what the first m litters count.
-use mathlib.Core.Path.{◌≡◌}
-use Prim.Native.Nat.{◌+◌, ◌-◌, ◌≤◌}
-use Rattle.archive.specs.Counts.{BothBelow}
+-- The counts are of the litters so far.
+use Rattle.std.proofs.Common.{◌≡◌, ◌+◌}
+use Rattle.summary.specs.Both.{BothBelow}
 use Rattle.archive_write.specs.Archive.{counted_to}
 use Rattle.archive_write.proofs.next_64.Given as goal
 
-abbrev pub invariant-loop-m : goal.invariant-loop-m
-invariant-loop-m l = (l.i ≤ l.m) × (l.m ≤ l.end) × (l.c ≡ counted_to l.litters l.m) × BothBelow l.c (l.m + 1)
-
-abbrev pub decreases-loop-m : goal.decreases-loop-m
-decreases-loop-m l = l.end - l.m
+abbrev pub invariant-loop-row : goal.invariant-loop-row
+invariant-loop-row l = record { counted : l.counts ≡ counted_to l.litters (l.i + l.row-index); below : BothBelow l.counts (l.i + l.row-index + 1) }

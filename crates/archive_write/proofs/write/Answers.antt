@@ -6,8 +6,11 @@ use Rattle.archive_write.proofs.write.Goals as goal
 pub returns-then-not-is_writable : goal.returns-then-not-is_writable
 returns-then-not-is_writable c = search (not_written, choose)
 
-pub put_archive-requires : goal.put_archive-requires
-put_archive-requires c = (search (few, choose), search (has_room, choose))
+pub put_archive-requires-clause-few : goal.put_archive-requires-clause-few
+put_archive-requires-clause-few c = search (few, choose)
+
+pub put_archive-requires-clause-room : goal.put_archive-requires-clause-room
+put_archive-requires-clause-room c = search (has_room, choose)
 
 pub returns : goal.returns
 returns c = search (write_done, choose)

@@ -1,24 +1,26 @@
--- `claimed::behind` meets its contract: no claim, something after it, or the claim.
-use native.Mathlib.Omega.{arith}
-use lib.Dec.{lit≤}
+-- The answers for `behind`: no claim, something after it, or the claim.
+use Rattle.std.proofs.Common.{◌≡◌, ◌∙◌, sym, Err, eqb-true, rules, lit≤}
+use Rattle.std.proofs.lemmas.Bool.{eqb-false}
 use Rattle.template.specs.Template.{holes}
 use Rattle.claimed.specs.Claimed.{claim}
-use borrow.Author.Rules.{rules}
 use Rattle.claimed.proofs.Laws.{behind_departs, behind_goes_on, behind_ends}
 use Rattle.claimed.proofs.behind.Goals as goal
 
-pub read-r-requires : goal.read-r-requires
-unfolding holes claim
-read-r-requires c = (search rules, lit≤ tt, omega arith)
+pub read-requires-clause-places : goal.read-requires-clause-places
+unfolding holes
+read-requires-clause-places c = lit≤ tt
 
-pub returns-then-not-r : goal.returns-then-not-r
-unfolding holes claim
-returns-then-not-r c = search behind_departs
+pub returns-in_err-r : goal.returns-in_err-r
+unfolding claim
+returns-in_err-r c =
+    let e : c.from_residual.result ≡ Err c.in_err-r.field-0.0 = search rules in
+    e ∙ behind_departs c.args.text.now c.args.n _ c.in_err-r.ensures.departs
 
-pub returns-then-r-text : goal.returns-then-r-text
+pub returns-then-not-is_empty : goal.returns-then-not-is_empty
 unfolding holes claim
-returns-then-r-text c = search behind_goes_on
+returns-then-not-is_empty c =
+    behind_goes_on c.args.text.now c.args.n _ _ _ c.in_ok-r.ensures.values c.in_ok-r.ensures.line (eqb-false _ 0 (sym c.if-not-is_empty.ensures))
 
 pub returns : goal.returns
 unfolding holes claim
-returns c = search behind_ends
+returns c = behind_ends c.args.text.now c.args.n _ _ c.in_ok-r.ensures.values (eqb-true _ 0 (sym c.if-not-is_empty.ensures))

@@ -1,16 +1,18 @@
 -- The answers for `claim_at`.
-use borrow.Author.Rules.{rules}
-use Rattle.claimed.proofs.Laws.{claim_start, claim_here, claim_later, claim_nowhere}
+use Rattle.std.proofs.Common.{arith}
+use Rattle.claimed.proofs.Laws.{claim_nowhere, claim_here, no_line_here, no_claim_here}
+use Rattle.claimed.proofs.claim_at.Goals.{else-last-eq10-via-then-last-eq10+else-c-eq99, else-last-eq10-via-else-last-eq10}
 use Rattle.claimed.proofs.claim_at.Goals as goal
 
-pub loop-i-init : goal.loop-i-init
-loop-i-init c = (claim_start _, search rules)
-
-pub returns-then-begins : goal.returns-then-begins
-returns-then-begins c = (search claim_here, search rules)
+pub returns-then-c-eq99-clause-value : goal.returns-then-c-eq99-clause-value
+returns-then-c-eq99-clause-value c = claim_here _ _ _ _ c.loop-i.invariant (omega arith) c.if-last-eq10.true c.if-c-eq99.true
 
 pub loop-i-preserved : goal.loop-i-preserved
-loop-i-preserved c = (search claim_later, search rules)
+loop-i-preserved c =
+    elim c.else-last-eq10.branch [
+      | else-last-eq10-via-then-last-eq10+else-c-eq99 w ↦ no_claim_here _ _ _ _ c.loop-i.invariant (omega arith) w.if-last-eq10.true w.if-c-eq99.false
+      | else-last-eq10-via-else-last-eq10 w ↦ no_line_here _ _ _ _ c.loop-i.invariant (omega arith) w.if-last-eq10.false
+    ]
 
-pub returns : goal.returns
-returns c = (search claim_nowhere, search rules)
+pub returns-clause-value : goal.returns-clause-value
+returns-clause-value c = claim_nowhere _ _ _ _ c.loop-i.invariant (omega arith) (omega arith)

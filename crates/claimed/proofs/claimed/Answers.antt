@@ -1,32 +1,52 @@
--- `claimed::claimed` meets its contract: the size, the request before the claim, then the claim.
-use mathlib.Core.Path.{sym, ◌∙◌}
-use lib.Seq.{length-take-le}
+-- The answers for `claimed`: the size, the request before the claim, then the claim.
+use Rattle.std.proofs.Common.{◌≡◌, ◌∙◌, take, Ok, Err, ap, rules}
+use Rattle.read.specs.Request.{read_request}
+use Rattle.read.specs.Rows.{asking_of, fill_request}
 use Rattle.claimed.proofs.Laws.{too_long, filled, request_departs, request_holds, few_asked}
 use Rattle.claimed.proofs.claimed.Goals as goal
 
-pub returns-then-text-gt8192 : goal.returns-then-text-gt8192
-returns-then-text-gt8192 c = rw c.departed.ensures (too_long _ _ c.if-text-gt8192.true)
+pub returns-then-text-gt8192-clause-value : goal.returns-then-text-gt8192-clause-value
+returns-then-text-gt8192-clause-value c = (too_long c.args.litters.now _ c.if-text-gt8192.true).0
 
-pub slice_bounds-request-end : goal.slice_bounds-request-end
-slice_bounds-request-end c = sym (length-take-le _ _ c.claim_at-at.ensures.1)
+pub returns-then-text-gt8192-clause-filled : goal.returns-then-text-gt8192-clause-filled
+returns-then-text-gt8192-clause-filled c = (too_long _ _ c.if-text-gt8192.true).1
 
-pub returns-then-not-a : goal.returns-then-not-a
-returns-then-not-a c =
+pub returns-in_err-asking-clause-value : goal.returns-in_err-asking-clause-value
+returns-in_err-asking-clause-value c =
     let a = c.args in
-    let h = c.if-text-gt8192.false in
-    rw c.departed-then-not-a.ensures (
-      request_departs a.litters.now a.text.now h c.claim_at-at.result c.claim_at-at.ensures.0 c.request-a.result c.request-a.ensures.0 c.if-not-a.true,
-      filled a.litters.now a.text.now h c.claim_at-at.result c.claim_at-at.ensures.0 c.request-a.result c.request-a.ensures.0 _ c.request-a.ensures.1,
-    )
+    let e : c.from_residual.result ≡ Err c.in_err-asking.field-0.0 = search rules in
+    let s : Err c.in_err-asking.field-0.0 ≡ asking_of 0 (read_request (take c.claim_at.result a.text.now)) = rw c.split_at.ensures.front at c.in_err-asking.ensures.value in
+    e ∙ request_departs a.litters.now a.text.now c.if-text-gt8192.false c.claim_at.result c.claim_at.ensures.value _ s
 
-pub behind-b-requires : goal.behind-b-requires
-behind-b-requires c =
-    (c.claim_at-at.ensures.1, few_asked _ c.request-a.result c.request-a.ensures.0)
-
-pub returns : goal.returns
-returns c =
+pub returns-in_err-asking-clause-filled : goal.returns-in_err-asking-clause-filled
+returns-in_err-asking-clause-filled c =
     let a = c.args in
-    let h = c.if-text-gt8192.false in (
-      c.joined.ensures ∙ request_holds a.litters.now a.text.now h c.claim_at-at.result c.claim_at-at.ensures.0 c.request-a.result c.request-a.ensures.0 c.behind-b.result c.if-not-a.false c.behind-b.ensures,
-      filled a.litters.now a.text.now h c.claim_at-at.result c.claim_at-at.ensures.0 c.request-a.result c.request-a.ensures.0 _ c.request-a.ensures.1,
-    )
+    filled a.litters.now a.text.now c.if-text-gt8192.false c.claim_at.result c.claim_at.ensures.value _ (c.request.ensures.filled ∙ ap (fill_request a.litters.now) c.split_at.ensures.front)
+
+pub behind-requires : goal.behind-requires
+behind-requires c = few_asked _ _ c.in_ok-asking.ensures.value
+
+pub returns-in_err-claim-clause-value : goal.returns-in_err-claim-clause-value
+returns-in_err-claim-clause-value c =
+    let a = c.args in
+    let e : c.from_residual-in_err-claim.result ≡ Err c.in_err-claim.field-0.0 = search rules in
+    let s = rw c.split_at.ensures.front at c.in_ok-asking.ensures.value in
+    let r = rw c.split_at.ensures.back at c.in_err-claim.ensures in
+    e ∙ request_holds a.litters.now a.text.now c.if-text-gt8192.false c.claim_at.result c.claim_at.ensures.value _ (Err c.in_err-claim.field-0.0) s r
+
+pub returns-in_err-claim-clause-filled : goal.returns-in_err-claim-clause-filled
+returns-in_err-claim-clause-filled c =
+    let a = c.args in
+    filled a.litters.now a.text.now c.if-text-gt8192.false c.claim_at.result c.claim_at.ensures.value _ (c.request.ensures.filled ∙ ap (fill_request a.litters.now) c.split_at.ensures.front)
+
+pub returns-clause-value : goal.returns-clause-value
+returns-clause-value c =
+    let a = c.args in
+    let s = rw c.split_at.ensures.front at c.in_ok-asking.ensures.value in
+    let r = rw c.split_at.ensures.back at c.in_ok-claim.ensures in
+    request_holds a.litters.now a.text.now c.if-text-gt8192.false c.claim_at.result c.claim_at.ensures.value c.in_ok-asking.asking (Ok c.in_ok-claim.claim) s r
+
+pub returns-clause-filled : goal.returns-clause-filled
+returns-clause-filled c =
+    let a = c.args in
+    filled a.litters.now a.text.now c.if-text-gt8192.false c.claim_at.result c.claim_at.ensures.value _ (c.request.ensures.filled ∙ ap (fill_request a.litters.now) c.split_at.ensures.front)

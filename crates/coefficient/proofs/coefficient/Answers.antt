@@ -3,4 +3,4 @@ use Rattle.coefficient.proofs.Laws.{larger_first, turned, nothing_chosen}
 use Rattle.coefficient.proofs.coefficient.Goals as goal
 
 pub returns : goal.returns
-returns c = record { value = search larger_first; value_2 = search turned; value_3 = search nothing_chosen }
+returns c = record { definition = search larger_first; exchanged = search turned; nothing_to_choose = search nothing_chosen }

@@ -1,6 +1,6 @@
 -- `decimal::decimal` meets its contract.
 use mathlib.Core.Path.{◌≡◌, refl}
-use Prim.Native.Nat.{ℕ, ◌-◌, ◌*◌, ◌^◌, ◌≤◌, ◌<◌}
+use Prim.Native.Nat.{ℕ, ◌*◌, ◌^◌, ◌≤◌, ◌<◌}
 use mathlib.Core.Bool.{Bool, cond}
 use lib.Ieee.{Float, binary64, neg, round}
 use native.Mathlib.Nat.{pow-le-pow_right}
@@ -22,16 +22,16 @@ both minus digits places den size r e h l k n i =
     (decimal_round minus digits places r f.2 d, d)
 
 pub nearest-r-requires : goal.nearest-r-requires
-nearest-r-requires c = let p = c.requires in fitting _ _ _ c.ten_to-den.ensures p.0 p.1 p.2
+nearest-r-requires c = let p = c.requires in let f = fitting _ _ _ c.pow-den.ensures p.0 p.1 p.2 in record { divides = f.0; den_fits = f.1; num_fits = f.2 }
 
 pub returns-then-minus : goal.returns-then-minus
 returns-then-minus c =
     let p = c.requires in
-    let b = both _ _ _ _ c.nearest-r.result _ c.ten_to-den.ensures p.0 p.1 p.2 c.nearest-r.ensures (rw c.if-minus.true refl) in
+    let b = both _ _ _ _ c.nearest-r.result _ c.pow-den.ensures p.0 p.1 p.2 c.nearest-r.ensures (rw c.if-minus.true refl) in
     record { value = b.0; nearest = b.1 }
 
 pub returns-else-minus : goal.returns-else-minus
 returns-else-minus c =
     let p = c.requires in
-    let b = both _ _ _ _ c.nearest-r.result _ c.ten_to-den.ensures p.0 p.1 p.2 c.nearest-r.ensures (rw c.if-minus.false refl) in
+    let b = both _ _ _ _ c.nearest-r.result _ c.pow-den.ensures p.0 p.1 p.2 c.nearest-r.ensures (rw c.if-minus.false refl) in
     record { value = b.0; nearest = b.1 }

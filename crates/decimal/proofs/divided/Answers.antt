@@ -5,11 +5,12 @@ use Prim.Native.Nat.{ℕ, ◌+◌, ◌-◌, ◌*◌, ◌/◌, ◌%◌, ◌^◌, 
 use native.Mathlib.Nat.{mul-le-mul_right, mul_left_comm, pow-succ', div-add-mod', mod-lt, div-lt_iff_lt-mul, lt_of_not-le, not-le_of_lt}
 use native.Mathlib.Numerals.{add-one}
 use native.Mathlib.Omega.{arith}
+use borrow.Author.Tests.{le-leb, lt-leb}
 use lib.Dec.{T, leb, leb→le, nleb→lt}
 use lib.Pow.{pow_mono}
-use Rattle.root.specs.Pencil.{taken_at_most}
 use Rattle.decimal.specs.Steps.{Dividing}
 use Rattle.decimal.proofs.divided.Goals as goal
+use Rattle.decimal.proofs.divided.Goals.{then-goes, else-goes}
 
 start : (num den : ℕ) → 0 < den → num < 2 ^ 54 * den → Dividing num den (num / den) (num % den) 0
 start num den p h =
@@ -38,36 +39,34 @@ turn num den q rest n h s f o = go (leb den (2 * rest)) (leb→le den (2 * rest)
         record { same = rw twice (omega (arith, o.same)); less = omega arith; few = omega arith; within = omega (arith, room num den q rest n h s f o.less o.same) }
 
 pub nonzero_div-digits : goal.nonzero_div-digits
-nonzero_div-digits c = c.requires.1
+nonzero_div-digits c = c.requires.divides
 
 pub nonzero_rem-rest : goal.nonzero_rem-rest
-nonzero_rem-rest c = c.requires.1
+nonzero_rem-rest c = c.requires.divides
 
 pub loop-digits-init : goal.loop-digits-init
-loop-digits-init c = start _ _ c.requires.1 c.requires.3
+loop-digits-init c = start _ _ c.requires.divides c.requires.num_fits
 
 pub overflow_mul-brought : goal.overflow_mul-brought
 overflow_mul-brought c = omega arith
 
-pub overflow_sub-rest : goal.overflow_sub-rest
-overflow_sub-rest c = rw c.taken_of-taken.ensures (taken_at_most _ _)
-
 pub overflow_mul-digits : goal.overflow_mul-digits
 overflow_mul-digits c = omega arith
 
-pub overflow_add-digits : goal.overflow_add-digits
-overflow_add-digits c = omega (arith, c.digit_of-digit.ensures.1)
-
 pub overflow_add-places : goal.overflow_add-places
-overflow_add-places c = omega (arith, room _ _ _ _ _ c.requires.0 c.requires.2 (omega (arith, c.loop-digits-test.true)) c.loop-digits.invariant.less c.loop-digits.invariant.same)
+overflow_add-places c = omega (arith, room _ _ _ _ _ c.requires.some c.requires.den_fits (omega (arith, c.loop-digits-test.true)) c.loop-digits.invariant.less c.loop-digits.invariant.same)
 
 pub loop-digits-smaller : goal.loop-digits-smaller
-loop-digits-smaller c = omega (arith, room _ _ _ _ _ c.requires.0 c.requires.2 (omega (arith, c.loop-digits-test.true)) c.loop-digits.invariant.less c.loop-digits.invariant.same)
+loop-digits-smaller c = omega (arith, room _ _ _ _ _ c.requires.some c.requires.den_fits (omega (arith, c.loop-digits-test.true)) c.loop-digits.invariant.less c.loop-digits.invariant.same)
 
 pub loop-digits-preserved : goal.loop-digits-preserved
 loop-digits-preserved c =
     let p = c.requires in
-    rw (c.taken_of-taken.ensures, c.digit_of-digit.ensures.0) (turn _ _ _ _ _ p.0 p.2 (omega (arith, c.loop-digits-test.true)) c.loop-digits.invariant)
+    let t = turn _ _ _ _ _ p.some p.den_fits (omega (arith, c.loop-digits-test.true)) c.loop-digits.invariant in
+    elim c.if-goes.branch [
+      | then-goes w ↦ let e = le-leb _ _ w.if-goes.true in rw (w.taken-is, c.from-digit.ensures, e) (rw e at t)
+      | else-goes w ↦ let e = lt-leb _ _ w.if-goes.false in rw (w.taken-is, c.from-digit.ensures, e) (rw e at t)
+    ]
 
 pub returns : goal.returns
 returns c = record { last = c.loop-digits.invariant; full = c.loop-digits-test.false }

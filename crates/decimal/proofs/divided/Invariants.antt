@@ -1,5 +1,4 @@
 -- `decimal::divided` meets its contract: the digits so far and the rest are num · 2^places, and while a digit is missing there are fewer than 107 places.
-use mathlib.Core.Bool.{true, false}
 use Prim.Native.Nat.{◌-◌}
 use Rattle.decimal.specs.Steps.{Dividing}
 use Rattle.decimal.proofs.divided.Given as goal

@@ -1,5 +1,5 @@
 -- `decimal::nearest` meets its contract.
-use Prim.Native.Nat.{◌-◌, ◌^◌, ◌≤◌}
+use Prim.Native.Nat.{◌^◌, ◌≤◌}
 use native.Mathlib.Omega.{arith}
 use Rattle.num.specs.Numbers.{number_bits}
 use Rattle.decimal.specs.Division.{near, near_zero, rounded_few}
@@ -9,7 +9,7 @@ few : (c : goal.After-rounded-c) → c.rounded-c.result ≤ 2 ^ 53
 few c = rw c.rounded-c.ensures (rounded_few _ _ c.divided-d.ensures.last.few)
 
 pub returns-then-num-eq0 : goal.returns-then-num-eq0
-returns-then-num-eq0 c = rw c.if-num-eq0.true (near_zero _ c.requires.0)
+returns-then-num-eq0 c = rw c.if-num-eq0.true (near_zero _ c.requires.divides)
 
 pub overflow_add-result : goal.overflow_add-result
 overflow_add-result c = omega (arith, few c, c.divided-d.ensures.last)
@@ -20,4 +20,4 @@ float_from_bits-result c = number_bits _ (omega (arith, few c, c.divided-d.ensur
 pub returns : goal.returns
 returns c =
     let d = c.divided-d.result in
-    rw c.rounded-c.ensures (near _ _ d.digits d.rest d.places c.requires.0 c.divided-d.ensures)
+    rw c.rounded-c.ensures (near _ _ d.digits d.rest d.places c.requires.divides c.divided-d.ensures)

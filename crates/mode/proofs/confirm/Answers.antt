@@ -1,16 +1,22 @@
--- `mode::confirm` meets its contract, by its tests and its callees' contracts.
-use Rattle.mode.proofs.ModeLaws.{confirm_stops, confirm_goes}
-use Rattle.num.specs.Choose.{choose}
+-- The answers for `confirm`.
+use Rattle.work.specs.Onward.{branch, gives, gives_up}
+use Rattle.posterior.specs.Steps.{refused, goes_on}
+use Rattle.posterior.specs.Integrand.{at}
+use Rattle.mode.specs.Mode.{confirmed}
 use Rattle.mode.proofs.confirm.Goals as goal
 
-pub returns-then-refused : goal.returns-then-refused
-returns-then-refused c = search (confirm_stops, choose)
+pub returns-in_err-v : goal.returns-in_err-v
+unfolding confirmed
+returns-in_err-v c = refused at _ _ _ _ _ _ c.in_err-v.ensures c.from_residual.ensures.1
 
 pub returns-then-abs-allowed : goal.returns-then-abs-allowed
-returns-then-abs-allowed c = search (confirm_goes, choose) fits 8000 depth 8
+unfolding confirmed
+returns-then-abs-allowed c = rw (goes_on at _ _ _ _ _ c.in_ok-v.ensures, branch, ← c.abs.ensures, ← c.allowed.ensures, c.if-abs-allowed.true, gives_up)
 
-pub returns-then-a : goal.returns-then-a
-returns-then-a c = search (confirm_goes, choose) fits 8000 depth 8
+pub returns-then-v : goal.returns-then-v
+unfolding confirmed
+returns-then-v c = rw (goes_on at _ _ _ _ _ c.in_ok-v.ensures, branch, ← c.abs.ensures, ← c.allowed.ensures, c.if-abs-allowed.false, branch, c.if-v.true, gives_up)
 
 pub returns : goal.returns
-returns c = search (confirm_goes, choose) fits 8000 depth 8
+unfolding confirmed
+returns c = rw (goes_on at _ _ _ _ _ c.in_ok-v.ensures, branch, ← c.abs.ensures, ← c.allowed.ensures, c.if-abs-allowed.false, branch, c.if-v.false, gives)

@@ -1,10 +1,13 @@
--- `mode::find` meets its contract, by a law for the call on the way.
-use Rattle.mode.proofs.ModeLaws.{mode_goes}
-use Rattle.num.specs.Choose.{choose}
+-- The answers for `find`.
+use Rattle.posterior.specs.Steps.{refused, goes_on}
+use Rattle.posterior.specs.Integrand.{at}
+use Rattle.mode.specs.Mode.{peak}
 use Rattle.mode.proofs.find.Goals as goal
 
-pub returns-then-refused : goal.returns-then-refused
-returns-then-refused c = search (mode_goes, choose)
+pub returns-in_err-z : goal.returns-in_err-z
+unfolding peak
+returns-in_err-z c = rw (← c.clamp.ensures) (refused at _ _ _ _ _ _ c.in_err-z.ensures c.from_residual.ensures.1)
 
 pub returns : goal.returns
-returns c = search (mode_goes, choose)
+unfolding peak
+returns c = rw (← c.clamp.ensures, goes_on at _ _ _ _ _ c.in_ok-z.ensures) c.confirm.ensures

@@ -1,8 +1,8 @@
--- `num::not_a_number` meets its contract: zero by zero is a NaN.
+-- `num::not_a_number` meets its contract: the constant's bits are a NaN's.
 use mathlib.Core.Path.{refl}
-use lib.Ieee.{div, of_bits}
+use lib.Ieee.{of_bits}
 use Rattle.num.proofs.not_a_number.Goals as goal
 
 pub returns : goal.returns
-unfolding div of_bits
+unfolding of_bits
 returns c = refl

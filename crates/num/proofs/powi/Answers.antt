@@ -4,6 +4,7 @@ use mathlib.Core.Bool.{cond}
 use Prim.Native.Nat.{ℕ, zero, suc, ◌/◌, ◌%◌, ◌^◌, ◌<◌}
 use native.Mathlib.Omega.{arith}
 use native.Mathlib.Numerals.{add-one}
+use borrow.Author.Tests.{ne_eqb}
 use lib.Dec.{eqb}
 use lib.Ieee.{Float}
 use lib.Pow.{shr_lt}
@@ -11,6 +12,7 @@ use Rattle.num.specs.F64.{◌⊗◌}
 use Rattle.num.specs.Helpers.{powi_from, powi_of}
 use Rattle.num.proofs.powi.Invariants.{Left}
 use Rattle.num.proofs.powi.Goals as goal
+use Rattle.num.proofs.powi.Goals.{then-odd, else-odd}
 
 no_bits : (n : ℕ) (square r : Float) → powi_from n square 0 r ≡ r
 unfolding powi_from
@@ -27,7 +29,10 @@ unfolding powi_of
 loop-left-init c = record { turns = 32; enough = omega arith; makes = refl }
 
 pub loop-left-preserved : goal.loop-left-preserved
-loop-left-preserved c = let i = c.loop-left.invariant in rw c.pick-r.ensures (turn _ _ _ _ i.turns c.loop-left-test.true i.enough i.makes)
+loop-left-preserved c =
+    let i = c.loop-left.invariant in
+    let t = turn _ _ _ _ i.turns c.loop-left-test.true i.enough i.makes in
+    elim c.if-odd.branch [ then-odd w ↦ rw w.r-is (rw w.if-odd.true at t) | else-odd w ↦ rw w.r-is (rw (ne_eqb _ 1 w.if-odd.false) at t) ]
 
 pub returns : goal.returns
 returns c = let i = c.loop-left.invariant in let z : c.loop-left.left ≡ 0 = omega arith in sym (no_bits i.turns _ _) ∙ (rw z at i.makes)

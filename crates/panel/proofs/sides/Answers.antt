@@ -1,16 +1,14 @@
--- `panel::sides` meets its contract, by a law for the call on the way.
-use Rattle.panel.proofs.Laws.{sides_goes}
-use Rattle.num.specs.Choose.{choose}
+-- The answers for `sides`: the left side, then the right.
+use Rattle.std.proofs.Math.Nat.{sub-zero}
+use Rattle.posterior.specs.Steps.{refused, goes_on}
+use Rattle.posterior.specs.Integrand.{at}
+use Rattle.panel.specs.Panel.{sides}
 use Rattle.panel.proofs.sides.Goals as goal
 
-pub int_to_float-panels : goal.int_to_float-panels
-int_to_float-panels c = tt
-
-pub returns-then-refused : goal.returns-then-refused
-returns-then-refused c = search (sides_goes, choose) fits 8000 depth 8
-
-pub int_to_float-panels-2 : goal.int_to_float-panels-2
-int_to_float-panels-2 c = tt
+pub returns-in_err-left : goal.returns-in_err-left
+unfolding sides
+returns-in_err-left c = refused at _ _ _ _ _ _ c.in_err-left.ensures c.from_residual.ensures.1
 
 pub returns : goal.returns
-returns c = search (sides_goes, choose) fits 8000 depth 8
+unfolding sides
+returns c = rw (goes_on at _ _ _ _ _ c.in_ok-left.ensures) (rw (sub-zero c.args.panels) at c.side.ensures)

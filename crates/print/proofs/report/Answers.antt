@@ -1,18 +1,14 @@
 -- `print::report` meets its contract: a status, the numbers, the marks.
+use Prim.Native.Nat.{◌+◌, ◌≤◌}
 use native.Mathlib.Omega.{arith}
-use borrow.Author.Rules.{rules}
-use Rattle.render.specs.Width.{width}
 use Rattle.print.proofs.Laws.{numbers_most, report_length, report_text_lem}
 use Rattle.print.proofs.report.Goals as goal
 
-pub put-second-requires : goal.put-second-requires
-unfolding width
-put-second-requires c = search rules
-
 pub active-requires : goal.active-requires
-unfolding width
-active-requires c = omega (arith, numbers_most _ _ _ c.put-second.ensures.0)
+active-requires c = let h : c.put-second.result ≤ c.text-first.result + 308 = search numbers_most in omega arith
 
-pub returns : goal.returns
-unfolding width
-returns c = search (report_length, report_text_lem)
+pub returns-clause-length : goal.returns-clause-length
+returns-clause-length c = search report_length
+
+pub returns-clause-text : goal.returns-clause-text
+returns-clause-text c = search report_text_lem

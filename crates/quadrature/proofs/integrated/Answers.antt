@@ -1,25 +1,38 @@
 -- The answers for `integrated`.
-use mathlib.Core.Path.{refl}
-use Rattle.quadrature.specs.Quadrature.{integrated_of}
-use Rattle.quadrature.proofs.Laws.{rules_stops, rules_spoiled, rules_agree, rules_turn, rules_done}
-use Rattle.num.specs.Choose.{choose}
+use Rattle.std.proofs.Common.{sym, ◌∙◌}
+use Rattle.num.specs.Left.{left_one, left_none}
+use Rattle.work.specs.Onward.{gives, gives_up}
+use Rattle.posterior.specs.Steps.{refused}
+use Rattle.posterior.specs.Integrand.{at}
+use Rattle.quadrature.specs.Quadrature.{rules}
+use Rattle.quadrature.proofs.Rules.{shifted, spoils, turn}
 use Rattle.quadrature.proofs.integrated.Goals as goal
 
-pub loop-k-init : goal.loop-k-init
-unfolding integrated_of
-loop-k-init c = refl
-
-pub returns-then-refused : goal.returns-then-refused
-returns-then-refused c = search (rules_stops, choose) fits 8000 depth 8
+pub returns-in_err-sum : goal.returns-in_err-sum
+unfolding rules
+returns-in_err-sum c =
+    let t = c.loop-k-test.true in
+    let e = rw (shifted c.loop-k.k t) at c.in_err-sum.ensures in
+    rw (← c.loop-k.invariant, left_one 10 c.loop-k.k t) (refused at _ _ _ _ _ _ e c.from_residual.ensures.1)
 
 pub returns-then-spoiled : goal.returns-then-spoiled
-returns-then-spoiled c = search (rules_spoiled, choose) fits 8000 depth 8
+returns-then-spoiled c =
+    let t = c.loop-k-test.true in
+    let e = rw (shifted c.loop-k.k t) at c.in_ok-sum.ensures in
+    rw (← c.loop-k.invariant, left_one 10 c.loop-k.k t) (spoils _ _ _ _ _ _ _ c.loop-k.old _ e c.if-spoiled.ensures)
 
-pub returns-then-both : goal.returns-then-both
-returns-then-both c = search (rules_agree, choose) fits 8000 depth 8
+pub returns-in-Some : goal.returns-in-Some
+returns-in-Some c =
+    let t = c.loop-k-test.true in
+    let e = rw (shifted c.loop-k.k t) at c.in_ok-sum.ensures in
+    rw (← c.loop-k.invariant, left_one 10 c.loop-k.k t, turn _ _ _ _ _ _ _ c.loop-k.old _ e c.if-spoiled.ensures _ c.in-Some.ensures, gives)
 
 pub loop-k-preserved : goal.loop-k-preserved
-loop-k-preserved c = search (rules_turn, choose) fits 8000 depth 8
+loop-k-preserved c =
+    let t = c.loop-k-test.true in
+    let e = rw (shifted c.loop-k.k t) at c.in_ok-sum.ensures in
+    sym (turn _ _ _ _ _ _ _ c.loop-k.old _ e c.if-spoiled.ensures _ c.in_default.ensures) ∙ (rw (left_one 10 c.loop-k.k t) at c.loop-k.invariant)
 
 pub returns : goal.returns
-returns c = search rules_done
+unfolding rules
+returns c = rw (← c.loop-k.invariant, left_none 10 c.loop-k.k c.loop-k-test.false, gives_up)

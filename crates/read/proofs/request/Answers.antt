@@ -1,50 +1,58 @@
--- `read::request` meets its contract: the size, the head, then the lines after it.
-use mathlib.Core.Path.{ap, ◌∙◌}
-use native.Mathlib.Omega.{arith}
-use borrow.Author.Rules.{rules}
-use lib.Dec.{lit≤}
+-- The answers for `request`: the size, the head, then the lines after it.
+use Rattle.std.proofs.Common.{◌≡◌, ap, ◌∙◌, Ok, Err, rules, lit≤}
 use Rattle.template.specs.Template.{holes}
 use Rattle.read.specs.Request.{head}
 use Rattle.read.specs.Rows.{asking_of}
-use Rattle.read.proofs.Laws.{head_inside, too_long, head_departs, head_read, head_filled, say_litters, say_departs}
-use mathlib.Core.Bool.{not}
+use Rattle.read.proofs.Laws.{too_long, head_departs, head_read, head_filled, head_inside, say_count, say_departs}
 use Rattle.read.proofs.request.Goals as goal
 
-pub read-r-requires : goal.read-r-requires
-unfolding holes head
-read-r-requires c = (search rules, lit≤ tt, omega arith)
+pub returns-then-text-gt8192-clause-value : goal.returns-then-text-gt8192-clause-value
+returns-then-text-gt8192-clause-value c = (too_long c.args.litters.now _ c.if-text-gt8192.true).0
 
-pub returns-then-text-gt8192 : goal.returns-then-text-gt8192
-returns-then-text-gt8192 c = rw c.departed.ensures (too_long _ _ c.if-text-gt8192.true)
+pub returns-then-text-gt8192-clause-filled : goal.returns-then-text-gt8192-clause-filled
+returns-then-text-gt8192-clause-filled c = (too_long _ _ c.if-text-gt8192.true).1
 
-pub returns-then-not-r : goal.returns-then-not-r
-unfolding holes head
-returns-then-not-r c =
-    let a = c.args in
-    rw c.departed-then-not-r.ensures (head_departs a.litters.now a.text.now c.read-r.result _ c.if-text-gt8192.false c.read-r.ensures c.if-not-r.true)
+pub read-requires-clause-places : goal.read-requires-clause-places
+unfolding holes
+read-requires-clause-places c = lit≤ tt
 
-pub rows-requires : goal.rows-requires
-unfolding holes head
-rows-requires c =
-    head_inside c.args.text.now _ c.read-r.result c.read-r.ensures
+pub returns-in_err-head-clause-value : goal.returns-in_err-head-clause-value
+unfolding head
+returns-in_err-head-clause-value c =
+    let e : c.from_residual.result ≡ Err c.in_err-head.field-0.0 = search rules in
+    e ∙ (head_departs c.args.litters.now c.args.text.now c.if-text-gt8192.false _ c.in_err-head.ensures.departs).0
 
-pub returns-in-Litters : goal.returns-in-Litters
-unfolding holes head
-returns-in-Litters c =
-    let a = c.args in
-    let v = c.read-r.result.values in (
-      say_litters v c.rows.result _ (c.rows.ensures.0 v) c.in-Litters.count c.in-Litters.is ∙
-          ap (asking_of 0) (head_read a.litters.now a.text.now c.read-r.result _ c.if-text-gt8192.false c.read-r.ensures c.if-not-r.false),
-      c.rows.ensures.1 ∙ head_filled a.litters.now a.text.now c.read-r.result _ c.if-text-gt8192.false c.read-r.ensures c.if-not-r.false,
-    )
+pub returns-in_err-head-clause-filled : goal.returns-in_err-head-clause-filled
+unfolding head
+returns-in_err-head-clause-filled c = (head_departs c.args.litters.now c.args.text.now c.if-text-gt8192.false _ c.in_err-head.ensures.departs).1
 
-pub returns-in-Departs : goal.returns-in-Departs
-unfolding holes head
-returns-in-Departs c =
-    let a = c.args in
-    let v = c.read-r.result.values in
-    rw c.departed-in-Departs.ensures (
-      say_departs v c.rows.result _ (c.rows.ensures.0 v) c.in-Departs.line c.in-Departs.is ∙
-          ap (asking_of 0) (head_read a.litters.now a.text.now c.read-r.result _ c.if-text-gt8192.false c.read-r.ensures c.if-not-r.false),
-      c.rows.ensures.1 ∙ head_filled a.litters.now a.text.now c.read-r.result _ c.if-text-gt8192.false c.read-r.ensures c.if-not-r.false,
-    )
+pub overflow_sub-start : goal.overflow_sub-start
+unfolding head holes
+overflow_sub-start c = head_inside c.args.text.now _ _ c.in_ok-head.ensures.values
+
+pub returns-in_err-count-clause-value : goal.returns-in_err-count-clause-value
+unfolding head holes
+returns-in_err-count-clause-value c =
+    let r = c.in_ok-head.ensures in
+    let v = c.in_ok-head.head.values in
+    let e : c.from_residual-in_err-count.result ≡ Err c.in_err-count.field-0.0 = search rules in
+    let i : c.rows.result ≡ Err c.in_err-count.field-0.0 = search rules in
+    e ∙ say_departs v c.rows.result _ _ i (c.rows.ensures.value v) ∙ ap (asking_of 0) (head_read c.args.litters.now c.args.text.now c.if-text-gt8192.false v _ r.values r.places)
+
+pub returns-in_err-count-clause-filled : goal.returns-in_err-count-clause-filled
+unfolding head holes
+returns-in_err-count-clause-filled c =
+    c.rows.ensures.filled ∙ head_filled c.args.litters.now c.args.text.now c.if-text-gt8192.false _ _ c.in_ok-head.ensures.values
+
+pub returns-clause-value : goal.returns-clause-value
+unfolding head holes
+returns-clause-value c =
+    let r = c.in_ok-head.ensures in
+    let v = c.in_ok-head.head.values in
+    let i : c.rows.result ≡ Ok c.in_ok-count.count = search rules in
+    say_count v c.rows.result _ _ i (c.rows.ensures.value v) ∙ ap (asking_of 0) (head_read c.args.litters.now c.args.text.now c.if-text-gt8192.false v _ r.values r.places)
+
+pub returns-clause-filled : goal.returns-clause-filled
+unfolding head holes
+returns-clause-filled c =
+    c.rows.ensures.filled ∙ head_filled c.args.litters.now c.args.text.now c.if-text-gt8192.false _ _ c.in_ok-head.ensures.values

@@ -1,53 +1,54 @@
 -- The answers for `rows`.
-use mathlib.Core.Path.{◌≡◌, sym, ap, ◌∙◌}
-use Prim.Native.Nat.{◌+◌, ◌-◌, ◌≤◌, ◌<◌}
-use native.Mathlib.Omega.{arith}
-use lib.ListN.{drop}
-use borrow.Author.Rules.{rules}
-use lib.Dec.{lit≤}
+use Rattle.std.proofs.Common.{◌≡◌, sym, ap, ◌∙◌, ◌+◌, ◌<◌, arith, lit≤}
 use Rattle.template.specs.Template.{holes}
 use Rattle.read.specs.Request.{litter}
 use Rattle.read.specs.Rows.{departed_of}
-use Rattle.read.proofs.Laws.{litter_inside, litter_small, row_read, row_filled, row_last, last_filled, rows_end, filled_end}
-use mathlib.Core.Bool.{not}
+use Rattle.read.proofs.Laws.{litter_small, row_read, row_filled, row_last, last_filled, rows_end, filled_end}
 use Rattle.read.proofs.rows.Goals as goal
 
-pub read-r-requires : goal.read-r-requires
-unfolding holes litter
-read-r-requires c = (search rules, lit≤ tt, omega arith)
+pub read-requires-clause-places : goal.read-requires-clause-places
+unfolding holes
+read-requires-clause-places c = lit≤ tt
 
-pub returns-then-not-r : goal.returns-then-not-r
+pub returns-in_default-clause-value : goal.returns-in_default-clause-value
 unfolding litter holes
-returns-then-not-r c =
+returns-in_default-clause-value c vs =
     let l = c.loop-n in
-    let a = c.args in
-    let h : l.n < 8192 = omega arith in (
-      (λ vs. c.last.ensures vs ∙ (rw (row_last a.text.now l.at l.n _ c.read-r.result c.read-r.ensures c.if-not-r.true vs a.start h) at (l.invariant.0 vs))),
-      last_filled a.text.now l.at l.n _ c.read-r.result c.read-r.ensures c.if-not-r.true l.litters h ∙ l.invariant.3,
-    )
+    c.last.ensures vs ∙ (rw (row_last l.rest.now l.n _ c.in_default.ensures.departs vs c.args.start (omega arith)) at (l.invariant.reads vs))
 
-pub put-requires : goal.put-requires
+pub returns-in_default-clause-filled : goal.returns-in_default-clause-filled
 unfolding litter holes
-put-requires c =
+returns-in_default-clause-filled c =
     let l = c.loop-n in
-    litter_small c.args.text.now l.at l.n _ c.read-r.result c.read-r.ensures c.if-not-r.false
+    last_filled l.rest.now l.n _ c.in_default.ensures.departs l.litters (omega arith) ∙ l.invariant.filled
+
+pub put-requires-clause-group : goal.put-requires-clause-group
+unfolding litter holes
+put-requires-clause-group c = (litter_small c.loop-n.rest.now c.loop-n.n _ _ c.in-Ok.ensures.values).0
+
+pub put-requires-clause-successes : goal.put-requires-clause-successes
+unfolding litter holes
+put-requires-clause-successes c = (litter_small c.loop-n.rest.now c.loop-n.n _ _ c.in-Ok.ensures.values).1
+
+pub put-requires-clause-total : goal.put-requires-clause-total
+unfolding litter holes
+put-requires-clause-total c = (litter_small c.loop-n.rest.now c.loop-n.n _ _ c.in-Ok.ensures.values).2
 
 pub loop-n-preserved : goal.loop-n-preserved
 unfolding litter holes
 loop-n-preserved c =
     let l = c.loop-n in
-    let a = c.args in
-    let h : l.n < 8192 = omega arith in (
-      (λ vs. sym (row_read a.text.now l.at l.n _ c.read-r.result c.read-r.ensures c.if-not-r.false vs a.start h) ∙ l.invariant.0 vs),
-      litter_inside a.text.now l.at (8 + l.n) _ c.read-r.result c.read-r.ensures,
-      omega arith,
-      rw c.put.ensures (sym (row_filled a.text.now l.at l.n _ c.read-r.result c.read-r.ensures c.if-not-r.false l.litters h) ∙ l.invariant.3),
-    )
+    let h : l.n < 8192 = omega arith in
+    record {
+      reads = λ vs. sym (row_read l.rest.now l.n _ _ c.in-Ok.ensures.values vs c.args.start h) ∙ l.invariant.reads vs;
+      filled = rw c.put.ensures (sym (row_filled l.rest.now l.n _ _ c.in-Ok.ensures.values l.litters h) ∙ l.invariant.filled);
+    }
 
-pub returns : goal.returns
-returns c =
+pub returns-clause-value : goal.returns-clause-value
+returns-clause-value c vs =
     let l = c.loop-n in
-    let a = c.args in
-    let h : 8192 ≤ l.n = omega arith in
     let e : 8200 ≡ 8 + l.n = omega arith in
-    ((λ vs. ap departed_of e ∙ sym (rows_end vs (drop l.at a.text.now) a.start l.n h) ∙ l.invariant.0 vs), filled_end l.litters (drop l.at a.text.now) l.n h ∙ l.invariant.3)
+    ap departed_of e ∙ sym (rows_end vs l.rest.now c.args.start l.n (omega arith)) ∙ l.invariant.reads vs
+
+pub returns-clause-filled : goal.returns-clause-filled
+returns-clause-filled c = let l = c.loop-n in filled_end l.litters l.rest.now l.n (omega arith) ∙ l.invariant.filled

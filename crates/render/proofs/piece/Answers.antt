@@ -7,20 +7,20 @@ use Rattle.render.proofs.piece.Goals as goal
 pub digits-requires : goal.digits-requires
 digits-requires c = search (room_count, rules)
 
-pub shape_of-out-then-c-eq35 : goal.shape_of-out-then-c-eq35
-shape_of-out-then-c-eq35 c = search same_written
+pub shape_of-out-in-35 : goal.shape_of-out-in-35
+shape_of-out-in-35 c = search same_written
 
-pub returns-then-c-eq35 : goal.returns-then-c-eq35
-returns-then-c-eq35 c = search (ends_count, by_text, as_count)
+pub returns-in-35 : goal.returns-in-35
+returns-in-35 c = search (ends_count, by_text, as_count)
 
-pub digits-requires-then-c-eq37 : goal.digits-requires-then-c-eq37
-digits-requires-then-c-eq37 c = search (room_bits, rules)
+pub digits-requires-in-37 : goal.digits-requires-in-37
+digits-requires-in-37 c = search (room_bits, rules)
 
-pub shape_of-out-then-c-eq37 : goal.shape_of-out-then-c-eq37
-shape_of-out-then-c-eq37 c = search same_written
+pub shape_of-out-in-37 : goal.shape_of-out-in-37
+shape_of-out-in-37 c = search same_written
 
-pub returns-then-c-eq37 : goal.returns-then-c-eq37
-returns-then-c-eq37 c = search (ends_bits, by_text, as_bits)
+pub returns-in-37 : goal.returns-in-37
+returns-in-37 c = search (ends_bits, by_text, as_bits)
 
 pub bounds-out-at : goal.bounds-out-at
 bounds-out-at c = search (room_byte, rules)
@@ -28,5 +28,5 @@ bounds-out-at c = search (room_byte, rules)
 pub overflow_add-result : goal.overflow_add-result
 overflow_add-result c = search (room_byte, rules)
 
-pub returns : goal.returns
-returns c = search (ends_byte, by_byte)
+pub returns-in_default : goal.returns-in_default
+returns-in_default c = search (ends_byte, by_byte)

@@ -6,8 +6,8 @@ use Rattle.render.proofs.put.Goals as goal
 pub piece-next-requires : goal.piece-next-requires
 piece-next-requires c = search put_fits
 
-pub loop-i-preserved : goal.loop-i-preserved
-loop-i-preserved c = (search put_text, search put_length, search (kept, same_written), search put_room, search taken_few, omega arith)
+pub loop-c-preserved : goal.loop-c-preserved
+loop-c-preserved c = (search put_text, search put_length, search (kept, same_written), search put_room, search taken_few, omega arith)
 
 pub returns : goal.returns
 returns c = search (put_ends, put_done)

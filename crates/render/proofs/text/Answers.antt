@@ -1,13 +1,8 @@
--- The answers for `text`.
-use borrow.Author.Rules.{rules}
-use Rattle.render.proofs.Laws.{text_begins, text_turn, text_done}
+-- The answers for `text`: a copy into the buffer's part.
+use Rattle.std.proofs.Common.{refl, ◌∙◌, arith}
+use Rattle.std.proofs.lemmas.Slice.{put_mid-paste}
+use Rattle.render.specs.WrittenLaws.{written_is}
 use Rattle.render.proofs.text.Goals as goal
 
-pub loop-i-init : goal.loop-i-init
-loop-i-init c = search (text_begins, rules)
-
-pub loop-i-preserved : goal.loop-i-preserved
-loop-i-preserved c = search (text_turn, rules)
-
 pub returns : goal.returns
-returns c = search (text_done, rules)
+returns c = (refl, put_mid-paste _ _ _ _ _ _ c.copy_from_slice.ensures.after (omega arith) refl ∙ written_is _ _ _ c.requires)

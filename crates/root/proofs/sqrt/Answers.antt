@@ -2,7 +2,7 @@
 use mathlib.Core.Path.{◌≡◌, refl, sym, subst}
 use mathlib.Core.Bool.{true}
 use lib.Dec.{T}
-use lib.Ieee.{Float, nan, binary64, fits, lt, odd, div, of_fields, of_bits, nan_bits}
+use lib.Ieee.{Float, nan, binary64, fits, lt, odd, div, of_fields, of_bits}
 use Rattle.num.specs.F64.{◌⊘◌, bits, bits_of, zero·, infinity·}
 use Rattle.num.specs.Choose.{choose}
 use Rattle.root.specs.Root.{units, IsRoot}
@@ -23,10 +23,6 @@ both x r f e = (e, subst (λ (y : Float). IsRoot x y) (sym e) (sqrt_is_root x f)
 no_root : div binary64 zero· zero· ≡ nan
 unfolding div of_bits of_fields odd
 no_root = refl
-
-pub float_from_bits-t-4 : goal.float_from_bits-t-4
-unfolding nan_bits
-float_from_bits-t-4 c = tt
 
 pub float_to_bits-b : goal.float_to_bits-b
 float_to_bits-b c = no_nan _ (between _ c.if-x.true c.if-x-2.true)

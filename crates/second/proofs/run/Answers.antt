@@ -1,36 +1,9 @@
--- The answers for `run`.
-use Prim.Native.Nat.{zero-le}
-use native.Mathlib.Omega.{arith}
-use Rattle.num.specs.Choose.{by_call, by_not_false, by_not_true}
-use Rattle.stepper.specs.Stands.{tell_less}
-use Rattle.course.specs.Drives.{fits, starts, run_ends, run_stops, run_turn}
-use Rattle.second.specs.Second.{valued}
-use mathlib.Core.Path.{ap}
-use mathlib.Core.Bool.{not}
+-- `run` meets its contract: what the loop answers is the descent of the bowl's definition.
+use Rattle.std.specs.Prelude.{None}
+use Rattle.std.proofs.Common.{◌∙◌}
+use Rattle.course.specs.Drives.{no_parts, course_is}
+use Rattle.second.specs.Second.{at, bowl_at, bowl_answer, bowl_is}
 use Rattle.second.proofs.run.Goals as goal
 
-pub loop-p-init : goal.loop-p-init
-loop-p-init c = (zero-le, starts _ _ _ _ _ _ _ c.begin-s.ensures)
-
-pub returns-then-not-awaits : goal.returns-then-not-awaits
-returns-then-not-awaits c =
-    run_ends _ _ _ _ _ _ _ c.begin-s.ensures _ _ c.loop-p.invariant.1 _ (by_not_false _ _ c.awaits.ensures (ap not c.if-not-awaits.true)) c.stopped.ensures
-
-pub overflow_add-spent : goal.overflow_add-spent
-overflow_add-spent c =
-    let h = fits _ _ _ _ _ _ _ _ (valued _ _ _ _ c.bowl_at-o.ensures) c.loop-p.invariant.0 in
-    omega arith
-
-pub returns-then-refused : goal.returns-then-refused
-returns-then-refused c =
-    run_stops _ _ _ _ _ _ _ c.begin-s.ensures _ _ c.loop-p.invariant.1 _ _ _ (by_not_true _ _ c.awaits.ensures (ap not c.if-not-awaits.false)) (valued _ _ _ _ c.bowl_at-o.ensures) _ (by_call _ _ _ c.refused.ensures c.if-refused.true) c.refusal.ensures
-
-pub loop-p-smaller : goal.loop-p-smaller
-loop-p-smaller c =
-    rw c.tell-t.ensures (tell_less _ _ _ (by_not_true _ _ c.awaits.ensures (ap not c.if-not-awaits.false)))
-
-pub loop-p-preserved : goal.loop-p-preserved
-loop-p-preserved c =
-    let i = c.loop-p.invariant in
-    let v = valued _ _ _ _ c.bowl_at-o.ensures in
-    (fits _ _ _ _ _ _ _ _ v i.0, run_turn _ _ _ _ _ _ _ _ i.1 _ _ _ (by_not_true _ _ c.awaits.ensures (ap not c.if-not-awaits.false)) v _ (by_call _ _ _ c.refused.ensures c.if-refused.false) c.tell-t.ensures)
+pub returns : goal.returns
+returns c = c.run.ensures ∙ course_is at bowl_at _ _ (λ l x. None) (λ u w. None) (no_parts at bowl_at _ _) bowl_answer bowl_is _ _

@@ -1,13 +1,18 @@
--- `tail::tail_goal` meets its contract, by a law for each call on the way.
-use Rattle.tail.proofs.Laws.{goal_stops, goal_stops_right, goal_gives}
-use Rattle.num.specs.Choose.{choose}
-use Rattle.tail.proofs.tail_goal.Goals as goal
+-- The answers for `tail_goal`: an evaluation on each side.
+use Rattle.work.specs.Onward.{gives}
+use Rattle.posterior.specs.Steps.{refused, goes_on}
+use Rattle.posterior.specs.Integrand.{at}
+use Rattle.tail.specs.Tail.{goal}
+use Rattle.tail.proofs.tail_goal.Goals as goals
 
-pub returns-then-refused : goal.returns-then-refused
-returns-then-refused c = search (goal_stops, choose)
+pub returns-in_err-l : goals.returns-in_err-l
+unfolding goal
+returns-in_err-l c = refused at _ _ _ _ _ _ c.in_err-l.ensures c.from_residual.ensures.1
 
-pub returns-then-refused-2 : goal.returns-then-refused-2
-returns-then-refused-2 c = search (goal_stops_right, choose) fits 8000 depth 8
+pub returns-in_err-r : goals.returns-in_err-r
+unfolding goal
+returns-in_err-r c = rw (goes_on at _ _ _ _ _ c.in_ok-l.ensures) (refused at _ _ _ _ _ _ c.in_err-r.ensures c.from_residual-in_err-r.ensures.1)
 
-pub returns : goal.returns
-returns c = search (goal_gives, choose) fits 8000 depth 8
+pub returns : goals.returns
+unfolding goal
+returns c = rw (c.exp-least.ensures, c.min.ensures, goes_on at _ _ _ _ _ c.in_ok-l.ensures, goes_on at _ _ _ _ _ c.in_ok-r.ensures, gives)

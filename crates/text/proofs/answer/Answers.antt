@@ -1,37 +1,30 @@
--- `text::answer` meets its contract: no room, a text without the form, too many litters, or the fit.
-use mathlib.Core.Path.{refl, sym}
-use Prim.Native.Nat.{zero-le}
-use native.Mathlib.Omega.{arith}
-use lib.Seq.{length-take-le}
+-- The answers for `answer`: a text without the form, too many litters, or the fit.
+use Rattle.std.proofs.Common.{refl, ◌*◌, take, arith}
+use Rattle.fit.specs.Fit.{fit_of}
 use Rattle.print.specs.Room.{whole_answer, refusal_fits, answer_fits}
-use Rattle.text.proofs.Laws.{answer_form, answer_many, answer_fit, buffer_length}
+use Rattle.text.proofs.Laws.{answer_form, answer_many, answer_fit}
 use Rattle.text.proofs.answer.Goals as goal
 
-pub returns-then-out-lt512 : goal.returns-then-out-lt512
-returns-then-out-lt512 c = record { value = (λ h. (refl, refl)); value_2 = (λ h. absurd (omega (arith, c.if-out-lt512.true))); upper_bound = zero-le }
+pub returns-in-Err-clause-answered : goal.returns-in-Err-clause-answered
+returns-in-Err-clause-answered c =
+    let e = answer_form c.request.new.litters c.request.new.litters c.args.text.now _ c.in-Err.ensures.value in
+    (whole_answer _ _ _ _ _ c.if-out-lt512.false e (c.refusal.ensures.length, c.refusal.ensures.text) (omega (arith, refusal_fits 4 0 c.in-Err.form.line))).1.0
 
-pub returns-then-not-a : goal.returns-then-not-a
-returns-then-not-a c =
-    let e = answer_form _ _ c.request-a.result _ c.request-a.ensures c.if-not-a.true in
-    let w = whole_answer _ _ _ _ _ c.if-out-lt512.false e c.refusal.ensures (omega (arith, refusal_fits 4 0 c.request-a.result.line)) in
-    record { value = w.0; value_2 = w.1.0; upper_bound = w.1.1 }
+pub returns-in-Err-clause-at_most : goal.returns-in-Err-clause-at_most
+returns-in-Err-clause-at_most c = omega (arith, c.refusal.ensures.length, refusal_fits 4 0 c.in-Err.form.line)
 
-pub returns-then-a-gt128 : goal.returns-then-a-gt128
-returns-then-a-gt128 c =
-    let e = answer_many _ _ c.request-a.result _ c.request-a.ensures c.if-not-a.false c.if-a-gt128.true in
-    let w = whole_answer _ _ _ _ _ c.if-out-lt512.false e c.refusal-then-a-gt128.ensures (omega (arith, refusal_fits 1 0 0)) in
-    record { value = w.0; value_2 = w.1.0; upper_bound = w.1.1 }
+pub returns-in-Ok-clause-answered : goal.returns-in-Ok-clause-answered
+returns-in-Ok-clause-answered c =
+    let e = answer_many c.request.new.litters c.request.new.litters c.args.text.now _ c.in-Ok.ensures.value c.if-asking-gt128.true in
+    (whole_answer _ _ _ _ _ c.if-out-lt512.false e (c.refusal-in-Ok.ensures.length, c.refusal-in-Ok.ensures.text) (omega (arith, refusal_fits 1 0 0))).1.0
 
--- the places of the litters in the buffer
-pub slice_bounds-litters-end : goal.slice_bounds-litters-end
-slice_bounds-litters-end c =
-    omega (arith, c.if-a-gt128.false, buffer_length _ _ c.request-a.result _ c.request-a.ensures)
+pub returns-in-Ok-clause-at_most : goal.returns-in-Ok-clause-at_most
+returns-in-Ok-clause-at_most c = omega (arith, c.refusal-in-Ok.ensures.length, refusal_fits 1 0 0)
 
-pub slice_bounds-fitted-end : goal.slice_bounds-fitted-end
-slice_bounds-fitted-end c = sym (length-take-le _ _ (omega (arith, c.if-a-gt128.false, buffer_length _ _ c.request-a.result _ c.request-a.ensures)))
+pub returns-in-Ok-2-clause-answered : goal.returns-in-Ok-2-clause-answered
+returns-in-Ok-2-clause-answered c =
+    let e = answer_fit _ _ c.args.text.now _ c.in-Ok.ensures.value c.request.ensures.filled refl c.if-asking-gt128.false in
+    (whole_answer _ _ _ _ _ c.if-out-lt512.false (rw c.request-in-Ok-2.ensures e) (c.fitted.ensures.length, c.fitted.ensures.text) (answer_fits _)).1.0
 
-pub returns : goal.returns
-returns c =
-    let e = answer_fit _ _ c.request-a.result _ c.request-a.ensures c.if-not-a.false refl c.if-a-gt128.false in
-    let w = whole_answer _ _ _ _ _ c.if-out-lt512.false (rw c.request-r.ensures e) c.fitted.ensures (answer_fits _) in
-    record { value = w.0; value_2 = w.1.0; upper_bound = w.1.1 }
+pub returns-in-Ok-2-clause-at_most : goal.returns-in-Ok-2-clause-at_most
+returns-in-Ok-2-clause-at_most c = omega (arith, c.fitted.ensures.length, answer_fits (fit_of c.request-in-Ok-2.result (take (3 * c.in-Ok.asking.count) c.request.new.litters)))

@@ -1,8 +1,14 @@
--- `text::request` meets its contract, by what its callees ensure.
-use mathlib.Core.Path.{refl}
-use Rattle.text.proofs.Laws.{next, request_is}
+-- The answers for `request`.
+use Rattle.std.proofs.Common.{◌≡◌, ℕ, ◌<◌, get_or, rules, lit<}
+use Rattle.std.specs.Float.Ieee.{nan}
+use Rattle.text.specs.Answer.{number}
+use Rattle.text.proofs.Laws.{first_twelve, request_is}
 use Rattle.text.proofs.request.Goals as goal
 
 pub returns : goal.returns
 returns c =
-    request_is _ _ _ _ c.requested.ensures (next c.number.ensures (next c.number-2.ensures (next c.number-3.ensures (next c.number-4.ensures (next c.number-5.ensures (next c.number-6.ensures (next c.number-7.ensures (next c.number-8.ensures (next c.number-9.ensures (next c.number-10.ensures (next c.number-11.ensures (next c.number-12.ensures refl)))))))))))) c.number-13.ensures
+    let numbers = c.map-numbers.result in
+    let all = c.map-numbers.ensures.items in
+    let each : (j : ℕ) → j < 16 → get_or numbers j nan ≡ number c.args.v j = λ j h. let w = all.at j 0 nan h in search rules in
+    let e = all.long in
+    request_is _ _ _ _ c.requested.ensures (first_twelve c.args.v nan numbers e (λ j h. each j (rw e at h))) (each 15 (lit< tt))

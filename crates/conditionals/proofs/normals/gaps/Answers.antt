@@ -1,19 +1,9 @@
--- The answers for `gaps`.
-use mathlib.Core.Path.{refl}
+-- `normals::gaps` meets its contract: what its sixteen calls give.
 use borrow.Author.Rules.{rules}
-use Rattle.num.specs.Filled.{turns, ends}
+use Rattle.num.specs.Made.{made}
 use Rattle.conditionals.specs.Normals.{gaps_of}
-use Rattle.conditionals.proofs.NormalsLaws.{gap}
 use Rattle.conditionals.proofs.normals.gaps.Goals as goal
-
-pub loop-i-init : goal.loop-i-init
-unfolding gaps_of
-loop-i-init c = (refl, refl)
-
-pub loop-i-preserved : goal.loop-i-preserved
-unfolding gaps_of
-loop-i-preserved c = (search rules, search (turns, gap))
 
 pub returns : goal.returns
 unfolding gaps_of
-returns c = search ends
+returns c = made _ _ _ (λ i y q l s. (search rules, search rules)) _ c.from_fn.ensures.items

@@ -8,7 +8,7 @@ use Rattle.counts.specs.Share.{risen_of}
 use Rattle.counts.specs.Rungs.{Held}
 use Rattle.counts.proofs.rungs.fill.Given as goal
 
-pub record Filled (shape : Float) (top : ℕ) (l : List Float) (s : Rising) (k : ℕ) : Type 0 where
+pub record Filled (shape : Float) (top : ℕ) (l : List Rising) (s : Rising) (k : ℕ) : Type 0 where
   pub few : top ≤ 63
   pub within : k ≤ top
   pub held : Held shape k l

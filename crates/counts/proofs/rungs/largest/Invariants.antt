@@ -6,8 +6,5 @@ use Rattle.num.specs.Fold.{fold_from}
 use Rattle.counts.specs.Rungs.{with_count_of, largest_of}
 use Rattle.counts.proofs.rungs.largest.Given as goal
 
-abbrev pub invariant-loop-i : goal.invariant-loop-i
-invariant-loop-i l = fold_from (with_count_of l.counts) (length l.counts - l.i) l.i l.most ≡ largest_of l.counts
-
-abbrev pub decreases-loop-i : goal.decreases-loop-i
-decreases-loop-i l = length l.counts - l.i
+abbrev pub invariant-loop-count : goal.invariant-loop-count
+invariant-loop-count l = fold_from (with_count_of l.counts) (length l.counts - l.count-index) l.count-index l.most ≡ largest_of l.counts

@@ -1,29 +1,24 @@
 -- The answers for `risen`.
-use mathlib.Core.Path.{◌≡◌, ◌∙◌}
+use mathlib.Core.Path.{◌≡◌, refl, ◌∙◌}
 use mathlib.Core.List.{List}
-use Prim.Native.Nat.{ℕ, ◌+◌, ◌-◌, ◌*◌, ◌≤◌, ◌<◌}
+use Prim.Native.Nat.{ℕ, ◌-◌, ◌≤◌}
 use native.Mathlib.Omega.{arith}
-use lib.ListN.{length}
 use lib.Ieee.{Float}
 use Rattle.num.specs.Fold.{fold_turns, fold_ends}
 use Rattle.counts.specs.declared.share.Rising.{Rising}
 use Rattle.counts.specs.Share.{rising_from, risen_of}
-use Rattle.counts.specs.Rungs.{rung_at_of, Held, rising_on}
+use Rattle.counts.specs.Rungs.{rung_at, Held, rising_on}
 use Rattle.counts.proofs.rungs.risen.Goals as goal
 
 -- from a rung that is held
-module _ (shape : Float) (top : ℕ) (l : List Float) (h : Held shape top l) (k : ℕ) (b : k ≤ top) where
-  room : 3 * k + 2 < length l
-  room = omega (arith, h.few, h.sized)
-
-  begins : (n : ℕ) (s : Rising) → k ≤ n → s ≡ rung_at_of l k → rising_from shape (n - k) k s ≡ risen_of shape n
+module _ (shape : Float) (top : ℕ) (l : List Rising) (h : Held shape top l) (k : ℕ) (b : k ≤ top) where
+  begins : (n : ℕ) (s : Rising) → k ≤ n → s ≡ rung_at l k → rising_from shape (n - k) k s ≡ risen_of shape n
   begins n s a e = rw (e ∙ h.holds k b) (rising_on shape n k a)
 
-pub rung_at-s-requires : goal.rung_at-s-requires
-rung_at-s-requires c = room _ _ _ c.requires _ c.lesser-first.ensures.2
-
 pub loop-k-init : goal.loop-k-init
-loop-k-init c = begins _ _ _ c.requires _ c.lesser-first.ensures.2 _ _ c.lesser-first.ensures.1 c.rung_at-s.ensures
+loop-k-init c =
+    let least = c.min-first.ensures in
+    begins _ _ _ c.requires _ (omega (arith, least)) _ _ (omega (arith, least)) refl
 
 pub loop-k-preserved : goal.loop-k-preserved
 loop-k-preserved c = search fold_turns

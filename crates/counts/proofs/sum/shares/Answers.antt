@@ -10,7 +10,7 @@ loop-i-init c = rw (sub-zero _, c.nothing-v.ensures)
 -- a row's exposure is there
 pub bounds-exposures-i : goal.bounds-exposures-i
 bounds-exposures-i c =
-    let room = c.requires.0 in
+    let room = c.requires.paired in
     let t = c.loop-i-test.true in
     omega arith
 

@@ -1,17 +1,13 @@
--- `request::admitted` meets its contract, by its test; what passed bounds the product.
-use Rattle.exposure.proofs.Laws.{refuses, decides, bounds}
-use mathlib.Core.Path.{ap}
-use mathlib.Core.Bool.{not}
+-- `request::admitted` meets its contract: what passed the tests before bounds the product.
+use mathlib.Core.Path.{sym, ◌∙◌}
+use Rattle.std.proofs.Common.{true≢false}
+use Rattle.exposure.proofs.Laws.{bounds}
 use Rattle.exposure.proofs.request.admitted.Goals as goal
-
-pub returns-then-not-both : goal.returns-then-not-both
-returns-then-not-both c =
-    refuses _ _ _ _ _ _ c.valid_request-request.ensures c.valid_rows-rows.ensures c.both.ensures (ap not c.if-not-both.true)
+use Rattle.exposure.proofs.request.admitted.Goals.{then-valid_request, else-valid_request}
 
 pub valid_work-requires : goal.valid_work-requires
 valid_work-requires c =
-    bounds _ _ _ _ _ _ c.valid_request-request.ensures c.valid_rows-rows.ensures c.both.ensures (ap not c.if-not-both.false)
-
-pub returns : goal.returns
-returns c =
-    decides _ _ _ _ _ _ c.valid_request-request.ensures c.valid_rows-rows.ensures c.both.ensures (ap not c.if-not-both.false) _ c.valid_work.ensures
+    elim c.if-valid_request.branch [
+      | then-valid_request w ↦ bounds c.args.r c.args.counts.now c.args.exposures.now (sym c.valid_request.ensures ∙ w.if-valid_request.true) (sym w.valid_rows.ensures ∙ (sym w.value-is ∙ c.if-valid_rows.true))
+      | else-valid_request w ↦ absurd (true≢false (sym c.if-valid_rows.true ∙ (w.value-is ∙ w.if-valid_request.false)))
+    ]

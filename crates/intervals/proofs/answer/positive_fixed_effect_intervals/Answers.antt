@@ -1,22 +1,16 @@
--- `answer::positive_fixed_effect_intervals` meets its contract, by its tests and what its callees ensure.
-use Rattle.intervals.proofs.Laws.{passed_few, passed_same, passed_errors, passed_rows, answer_shape, answer_finite, answer_factor, answer_goes}
-use borrow.Author.Rules.{rules}
+-- `positive_fixed_effect_intervals` meets its contract: what a shape that passed says of the lengths.
+use Rattle.num.specs.Choose.{choose}
+use Rattle.intervals.proofs.Laws.{passed_few, passed_same, passed_errors, passed_rows}
 use Rattle.intervals.proofs.answer.positive_fixed_effect_intervals.Goals as goal
 
-pub returns-then-not-shaped : goal.returns-then-not-shaped
-returns-then-not-shaped c = record { value = search answer_shape; estimates_value = search rules }
+pub factored-requires-clause-few : goal.factored-requires-clause-few
+factored-requires-clause-few c = search (passed_errors, choose)
 
-pub returns-then-not-all_finite : goal.returns-then-not-all_finite
-returns-then-not-all_finite c = record { value = search answer_finite fits 8000 depth 8; estimates_value = search rules }
+pub factored-requires-clause-square : goal.factored-requires-clause-square
+factored-requires-clause-square c = search (passed_rows, choose)
 
-pub factored-f-requires : goal.factored-f-requires
-factored-f-requires c = search (passed_errors, passed_rows)
+pub collected-requires-clause-few : goal.collected-requires-clause-few
+collected-requires-clause-few c = search (passed_few, choose)
 
-pub returns-then-not-f : goal.returns-then-not-f
-returns-then-not-f c = record { value = search answer_factor fits 8000 depth 8; estimates_value = search rules }
-
-pub collected-requires : goal.collected-requires
-collected-requires c = search (passed_few, passed_same)
-
-pub returns : goal.returns
-returns c = record { value = search answer_goes fits 8000 depth 8; estimates_value = search rules }
+pub collected-requires-clause-same : goal.collected-requires-clause-same
+collected-requires-clause-same c = search (passed_same, choose)

@@ -1,21 +1,19 @@
 -- The answers for `factored`.
-use mathlib.Core.Path.{refl}
+use Rattle.std.proofs.Common.{sym, ◌∙◌, length}
 use native.Mathlib.Nat.{sub-zero}
-use lib.ListN.{length}
 use Rattle.intervals.specs.Factor.{factored_of}
-use Rattle.intervals.proofs.Laws.{held_stops, held_turns, held_ends}
-use Rattle.num.specs.Choose.{choose}
+use Rattle.intervals.proofs.Laws.{held_stops, held_turns, held_ends, handed_on}
 use Rattle.intervals.proofs.factor.factored.Goals as goal
 
 pub loop-i-init : goal.loop-i-init
 unfolding factored_of
 loop-i-init c = rw (sub-zero (length c.args.errors.now))
 
-pub returns-then-not-e : goal.returns-then-not-e
-returns-then-not-e c = (search (held_stops, choose) fits 8000 depth 8, refl, refl)
+pub returns-in_err-lower : goal.returns-in_err-lower
+returns-in_err-lower c = handed_on _ _ c.from_residual.ensures.1 ∙ held_stops _ _ _ _ _ c.loop-i.invariant _ c.loop-i-test.true (sym c.line.ensures ∙ c.in_err-lower.was)
 
 pub loop-i-preserved : goal.loop-i-preserved
-loop-i-preserved c = search (held_turns, choose) fits 8000 depth 8
+loop-i-preserved c = held_turns _ _ _ _ _ c.loop-i.invariant _ c.loop-i-test.true (sym c.line.ensures ∙ c.in_ok-lower.was)
 
 pub returns : goal.returns
-returns c = (search (held_ends, choose) fits 8000 depth 8, refl, refl)
+returns c = held_ends _ _ _ _ _ c.loop-i.invariant c.loop-i-test.false

@@ -7,6 +7,3 @@ use Rattle.intervals.proofs.factor.products.Given as goal
 
 abbrev pub invariant-loop-k : goal.invariant-loop-k
 invariant-loop-k l = fold_from (with_product_of l.lower l.i l.j) (l.j - l.k) l.k l.sum ≡ products_of l.lower l.i l.j
-
-abbrev pub decreases-loop-k : goal.decreases-loop-k
-decreases-loop-k l = l.j - l.k

@@ -1,22 +1,11 @@
--- The answers for `each_valid`.
-use Rattle.std.proofs.Common.{◌/◌, length, refl}
-use native.Mathlib.Nat.{sub-zero}
-use Rattle.num.specs.Every.{every_stops, every_turns, every_ends}
-use Rattle.litters.specs.Valid.{each_valid_of}
-use Rattle.num.specs.Choose.{choose}
+-- `valid::each_valid` meets its contract, by what the chain says of each row.
+use Rattle.std.proofs.Common.{◌≡◌, true, false, rules}
+use Rattle.std.proofs.lemmas.Iterator.{cases_from_all, YieldsList-from_slice}
+use borrow.Author.Tests.{tests}
+use Rattle.litters.proofs.Laws.{row_valid, each_row}
 use Rattle.litters.proofs.valid.each_valid.Goals as goal
 
-pub loop-i-init : goal.loop-i-init
-unfolding each_valid_of
-loop-i-init c = (refl, rw (sub-zero (length c.args.litters.now / 3)))
-
-pub returns-then-not-valid_litter : goal.returns-then-not-valid_litter
-returns-then-not-valid_litter c = search (every_stops, choose)
-
-pub loop-i-preserved : goal.loop-i-preserved
-loop-i-preserved c =
-    let i = c.loop-i.invariant in
-    (i.0, every_turns _ _ _ _ i.1 _ c.loop-i-test.true c.valid_litter.ensures c.if-not-valid_litter.false)
-
 pub returns : goal.returns
-returns c = search every_ends
+returns c =
+    each_row c.args.litters.now c.rows.result.now c.rows.ensures.count c.rows.ensures.each c.all.result
+    (cases_from_all _ _ _ (λ row. row_valid row ≡ true) (λ row. row_valid row ≡ false) c.all.ensures.ran (YieldsList-from_slice c.rows.result.now cc) (λ x q k. search (rules, tests)) (λ x q k. search (rules, tests)))

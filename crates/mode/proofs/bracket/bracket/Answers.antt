@@ -1,13 +1,18 @@
--- `bracket::bracket` meets its contract: a law for each call on the way.
-use Rattle.num.specs.Choose.{choose}
-use Rattle.mode.proofs.BracketLaws.{ends_stops, ends_goes}
+-- The answers for `bracket::bracket`.
+use Rattle.work.specs.Onward.{gives}
+use Rattle.posterior.specs.Steps.{refused, goes_on}
+use Rattle.posterior.specs.Integrand.{at}
+use Rattle.mode.specs.Bracket.{ends}
 use Rattle.mode.proofs.bracket.bracket.Goals as goal
 
-pub returns-then-refused : goal.returns-then-refused
-returns-then-refused c = search (ends_stops, choose)
+pub returns-in_err-left : goal.returns-in_err-left
+unfolding ends
+returns-in_err-left c = refused at _ _ _ _ _ _ c.in_err-left.ensures c.from_residual.ensures.1
 
-pub returns-then-refused-2 : goal.returns-then-refused-2
-returns-then-refused-2 c = search (ends_goes, choose)
+pub returns-in_err-right : goal.returns-in_err-right
+unfolding ends
+returns-in_err-right c = rw (goes_on at _ _ _ _ _ c.in_ok-left.ensures) (refused at _ _ _ _ _ _ c.in_err-right.ensures c.from_residual-in_err-right.ensures.1)
 
 pub returns : goal.returns
-returns c = search (ends_goes, choose)
+unfolding ends
+returns c = rw (goes_on at _ _ _ _ _ c.in_ok-left.ensures, goes_on at _ _ _ _ _ c.in_ok-right.ensures, gives)

@@ -1,11 +1,10 @@
--- `bracket::double` meets its contract: what the doublings still to come make of the count and the end so far is the whole search.
-use mathlib.Core.Path.{◌≡◌}
-use Prim.Native.Nat.{◌-◌}
-use Rattle.mode.specs.Bracket.{bound_from, double_of}
+-- The doublings still to come make of the meter and the place so far the whole search.
+use Rattle.std.proofs.Common.{◌≡◌, ◌-◌}
+use Rattle.work.specs.Answer.{by}
+use Rattle.posterior.specs.Integrand.{at, here}
+use Rattle.posterior.specs.Side.{first_of}
+use Rattle.mode.specs.Bracket.{doubled}
 use Rattle.mode.proofs.bracket.double.Given as goal
 
 abbrev pub invariant-loop : goal.invariant-loop
-invariant-loop l = bound_from l.q l.side (16 - l.counter) l.z ≡ double_of l.initial.q l.side
-
-abbrev pub decreases-loop : goal.decreases-loop
-decreases-loop l = 16 - l.counter
+invariant-loop l = by at l.meter (doubled (here l.p) l.side (16 - l.counter) l.z) ≡ by at l.fn.meter (doubled (here l.p) l.side 16 (first_of l.side))

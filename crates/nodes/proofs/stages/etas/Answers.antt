@@ -1,18 +1,9 @@
--- The answers for `etas`.
-use mathlib.Core.Path.{refl}
+-- `stages::etas` meets its contract: what its sixteen calls give.
 use borrow.Author.Rules.{rules}
-use Rattle.num.specs.Filled.{turns, ends}
+use Rattle.num.specs.Made.{made}
 use Rattle.nodes.specs.Stages.{etas_of}
 use Rattle.nodes.proofs.stages.etas.Goals as goal
 
-pub loop-i-init : goal.loop-i-init
-unfolding etas_of
-loop-i-init c = (refl, refl)
-
-pub loop-i-preserved : goal.loop-i-preserved
-unfolding etas_of
-loop-i-preserved c = (search rules, search turns)
-
 pub returns : goal.returns
 unfolding etas_of
-returns c = search ends
+returns c = made _ _ _ (λ i y q l s. (search rules, search rules)) _ c.from_fn.ensures.items

@@ -1,18 +1,9 @@
--- The answers for `heights`.
-use mathlib.Core.Path.{refl}
+-- `stages::heights` meets its contract: what its sixteen calls give.
 use borrow.Author.Rules.{rules}
-use Rattle.num.specs.Filled.{turns, ends}
+use Rattle.num.specs.Made.{made}
 use Rattle.nodes.specs.Stages.{heights_of}
 use Rattle.nodes.proofs.stages.heights.Goals as goal
 
-pub loop-i-init : goal.loop-i-init
-unfolding heights_of
-loop-i-init c = (refl, refl)
-
-pub loop-i-preserved : goal.loop-i-preserved
-unfolding heights_of
-loop-i-preserved c = (search rules, search turns)
-
 pub returns : goal.returns
 unfolding heights_of
-returns c = search ends
+returns c = made _ _ _ (λ i y q l s. (search rules, search rules)) _ c.from_fn.ensures.items

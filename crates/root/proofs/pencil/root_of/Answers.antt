@@ -1,5 +1,4 @@
 -- The answers for `root_of`.
-use Prim.Native.Nat.{◌-◌}
 use native.Mathlib.Omega.{arith}
 use borrow.Author.Rules.{rules}
 use Rattle.root.specs.Steps.{pencil_from}
@@ -11,7 +10,7 @@ unfolding pencil_from
 loop-k-init c = (search rules, omega arith)
 
 pub step-row-requires : goal.step-row-requires
-step-row-requires c = ready _ _ _ c.requires c.loop-k-test.true c.loop-k.invariant.0
+step-row-requires c = let r = ready _ _ _ c.requires c.loop-k-test.true c.loop-k.invariant.0 in record { coming_fits = r.0; rest_small = r.1; root_fits = r.2 }
 
 pub overflow_step-k : goal.overflow_step-k
 overflow_step-k c = omega arith

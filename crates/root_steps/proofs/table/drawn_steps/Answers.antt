@@ -8,7 +8,9 @@ unfolding pencil_from
 loop-k-init c = c.start-row.ensures
 
 pub step-next-requires : goal.step-next-requires
-step-next-requires c = ready _ _ _ c.requires c.loop-k-test.true c.loop-k.invariant
+step-next-requires c =
+    let r = ready _ _ _ c.requires c.loop-k-test.true c.loop-k.invariant in
+    record { coming_fits = r.0; rest_small = r.1; root_fits = r.2 }
 
 pub loop-k-preserved : goal.loop-k-preserved
 loop-k-preserved c = next_row _ _ _ _ c.loop-k.invariant c.step-next.ensures

@@ -1,10 +1,21 @@
--- `peak::limits` meets its contract, by a law for the calls on the way.
-use Rattle.row.proofs.PeakLaws.{limits_goes}
-use Rattle.num.specs.Choose.{choose}
-use Rattle.row.proofs.peak.limits.Goals as goal
+-- The answers for `peak::limits`: the goal, then the tails.
+use Rattle.std.proofs.Common.{◌≡◌, rules}
+use Rattle.root.specs.Steps.{sqrt_of}
+use Rattle.posterior.specs.Steps.{refused, goes_on}
+use Rattle.posterior.specs.Integrand.{at}
+use Rattle.row.specs.Peak.{spanned}
+use Rattle.row.proofs.peak.limits.Goals as goals
 
-pub returns-then-refused : goal.returns-then-refused
-returns-then-refused c = search (limits_goes, choose) fits 8000 depth 8
+pub returns-in_err-goal : goals.returns-in_err-goal
+unfolding spanned
+returns-in_err-goal c =
+    let said = c.sqrt-delta.ensures in
+    let e : c.sqrt-delta.result ≡ sqrt_of c.args.m.curvature = search rules in
+    rw (← e) (refused at _ _ _ _ _ _ c.in_err-goal.ensures c.from_residual.ensures.1)
 
-pub returns : goal.returns
-returns c = search (limits_goes, choose) fits 8000 depth 8
+pub returns : goals.returns
+unfolding spanned
+returns c =
+    let said = c.sqrt-delta.ensures in
+    let e : c.sqrt-delta.result ≡ sqrt_of c.args.m.curvature = search rules in
+    rw (← e, goes_on at _ _ _ _ _ c.in_ok-goal.ensures) c.bounded.ensures

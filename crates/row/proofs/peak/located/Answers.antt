@@ -1,13 +1,17 @@
--- `peak::located` meets its contract, by a law for each call on the way.
-use Rattle.row.proofs.PeakLaws.{located_stops, located_goes}
-use Rattle.num.specs.Choose.{choose}
+-- The answers for `peak::located`: the bracket, its check, the mode.
+use Rattle.posterior.specs.Steps.{refused, goes_on}
+use Rattle.posterior.specs.Integrand.{at}
+use Rattle.row.specs.Peak.{peaked}
 use Rattle.row.proofs.peak.located.Goals as goal
 
-pub returns-then-refused : goal.returns-then-refused
-returns-then-refused c = search (located_stops, choose)
+pub returns-in_err-bracket : goal.returns-in_err-bracket
+unfolding peaked
+returns-in_err-bracket c = refused at _ _ _ _ _ _ c.in_err-bracket.ensures c.from_residual.ensures.1
 
-pub returns-then-refused-2 : goal.returns-then-refused-2
-returns-then-refused-2 c = search (located_goes, choose) fits 8000 depth 8
+pub returns-in_err-within : goal.returns-in_err-within
+unfolding peaked
+returns-in_err-within c = rw (goes_on at _ _ _ _ _ c.in_ok-bracket.ensures) (refused at _ _ _ _ _ _ c.in_err-within.ensures c.from_residual-in_err-within.ensures.1)
 
 pub returns : goal.returns
-returns c = search (located_goes, choose) fits 8000 depth 8
+unfolding peaked
+returns c = rw (goes_on at _ _ _ _ _ c.in_ok-bracket.ensures, goes_on at _ _ _ _ _ c.in_ok-within.ensures) c.find.ensures

@@ -1,13 +1,22 @@
--- `share::spread` meets its contract, by a law for each call on the way.
-use Rattle.row.proofs.ShareLaws.{spread_stops, spread_goes}
-use Rattle.num.specs.Choose.{choose}
+-- The answers for `share::spread`: the mode, the limits, the integral.
+use Rattle.work.specs.Onward.{gives}
+use Rattle.posterior.specs.Steps.{refused, goes_on}
+use Rattle.posterior.specs.Integrand.{at}
+use Rattle.row.specs.Share.{spread}
 use Rattle.row.proofs.share.spread.Goals as goal
 
-pub returns-then-refused : goal.returns-then-refused
-returns-then-refused c = search (spread_stops, choose) fits 8000 depth 8
+pub returns-in_err-m : goal.returns-in_err-m
+unfolding spread
+returns-in_err-m c = refused at _ _ _ _ _ _ c.in_err-m.ensures c.from_residual.ensures.1
 
-pub returns-then-refused-2 : goal.returns-then-refused-2
-returns-then-refused-2 c = search (spread_goes, choose) fits 8000 depth 8
+pub returns-in_err-ends : goal.returns-in_err-ends
+unfolding spread
+returns-in_err-ends c = rw (goes_on at _ _ _ _ _ c.in_ok-m.ensures) (refused at _ _ _ _ _ _ c.in_err-ends.ensures c.from_residual-in_err-ends.ensures.1)
+
+pub returns-in_err-i : goal.returns-in_err-i
+unfolding spread
+returns-in_err-i c = rw (goes_on at _ _ _ _ _ c.in_ok-m.ensures, goes_on at _ _ _ _ _ c.in_ok-ends.ensures) (refused at _ _ _ _ _ _ c.in_err-i.ensures c.from_residual-in_err-i.ensures.1)
 
 pub returns : goal.returns
-returns c = search (spread_goes, choose) fits 8000 depth 8
+unfolding spread
+returns c = rw (c.summed.ensures, goes_on at _ _ _ _ _ c.in_ok-m.ensures, goes_on at _ _ _ _ _ c.in_ok-ends.ensures, goes_on at _ _ _ _ _ c.in_ok-i.ensures, gives)

@@ -1,46 +1,57 @@
 -- The answers for `read`.
-use mathlib.Core.Path.{◌≡◌, refl}
-use Prim.Native.Nat.{◌-◌, ◌≤◌, ◌<◌}
-use native.Mathlib.Omega.{arith}
-use native.Mathlib.Nat.{zero-add}
-use lib.ListN.{length, get_or, take, drop}
-use Rattle.template.specs.Template.{holes}
-use Rattle.template.specs.Field.{departs}
-use Rattle.template.specs.Read.{read_field}
-use borrow.Author.Rules.{rules}
-use Rattle.template.proofs.ReadLaws.{kept_none, says_value, says_departs, read_stops, read_ends, none_left, no_feeds_left, places_filled, left_again, answer_departs, answer_done}
+use Rattle.std.proofs.Common.{◌≡◌, ◌+◌, true, cond, set, get_or, arith, rules}
+use Rattle.template.specs.Template.{is_hole_of}
+use Rattle.template.specs.Field.{found, departs}
+use Rattle.template.specs.Read.{read_field, line_after_of}
+use Rattle.template.proofs.ReadLaws.{left_departs, left_ends, left_room, left_turns, hole_count, hole_bits, no_hole, next_line, same_line}
+use Rattle.template.proofs.read.read.Goals.{then-c-eq35, then-c-eq35-via-then-c-eq35, then-c-eq35-via-else-c-eq35+then-c-eq37, else-c-eq35+else-c-eq37, then-c-eq10, else-c-eq10}
 use Rattle.template.proofs.read.read.Goals as goal
 
-pub loop-k-init : goal.loop-k-init
-loop-k-init c = (kept_none _, search rules, zero-add _, search rules, refl, refl, refl)
+pub returns-in_default-clause-departs : goal.returns-in_default-clause-departs
+returns-in_default-clause-departs c =
+    let none : departs ≡ read_field (get_or c.args.template.now c.loop-c.c-index 0) c.loop-c.rest.now = search rules in
+    left_departs c.loop-c.invariant (omega arith) none
 
-pub returns-in_default : goal.returns-in_default
-returns-in_default c =
-    let l = c.loop-k in
-    let a = c.args in
-    let h : l.k < length a.template.now = omega arith in
-    let f : read_field (get_or a.template.now l.k 0) (drop l.at a.text.now) ≡ departs = says_departs a.text.now _ _ c.in_default.is c.token_at-t.ensures in
-    answer_departs a.text.now l.line _ _ (read_stops a.template.now a.text.now (take l.n l.values) l.k l.line l.at _ l.invariant.0 h f)
+pub bounds-values-n : goal.bounds-values-n
+bounds-values-n c =
+    let hole : is_hole_of (get_or c.args.template.now c.loop-c.c-index 0) ≡ true = elim c.then-c-eq35.branch [
+      | then-c-eq35-via-then-c-eq35 w ↦ hole_count _ w.if-c-eq35.true
+      | then-c-eq35-via-else-c-eq35+then-c-eq37 w ↦ hole_bits _ w.if-c-eq35.false w.if-c-eq37.true
+    ] in
+    left_room c.loop-c.invariant (omega arith) c.requires.places hole
 
-pub count_after-n-requires : goal.count_after-n-requires
-count_after-n-requires c = omega arith
+pub loop-c-preserved : goal.loop-c-preserved
+loop-c-preserved c =
+    let l = c.loop-c in
+    let byte = get_or c.args.template.now l.c-index 0 in
+    let hole = is_hole_of byte in
+    let kept : (c.if-c-eq35.n ≡ l.n + cond hole 1 0) × (c.if-c-eq35.values ≡ cond hole (set l.values l.n c.in-Some.value) l.values) = elim c.if-c-eq35.branch [
+      | then-c-eq35 w ↦
+          let h : hole ≡ true = elim w.then-c-eq35.branch [
+            | then-c-eq35-via-then-c-eq35 w' ↦ hole_count _ w'.if-c-eq35.true
+            | then-c-eq35-via-else-c-eq35+then-c-eq37 w' ↦ hole_bits _ w'.if-c-eq35.false w'.if-c-eq37.true
+          ] in
+          rw h (w.n-is, w.values-is)
+      | else-c-eq35+else-c-eq37 w ↦ rw (no_hole _ w.if-c-eq35.false w.if-c-eq37.false) (omega (arith, w.n-is), w.values-is)
+    ] in
+    let line : c.if-c-eq10.line ≡ line_after_of byte l.line = elim c.if-c-eq10.branch [
+      | then-c-eq10 w ↦ rw (next_line byte l.line w.if-c-eq10.true) w.line-is
+      | else-c-eq10 w ↦ rw (same_line byte l.line w.if-c-eq10.false) w.line-is
+    ] in
+    let some : found c.in-Some.value c.in-Some.after.now ≡ read_field byte l.rest.now = search rules in
+    let left : c.if-c-eq10.rest.now ≡ c.in-Some.after.now = elim c.if-c-eq10.branch [ then-c-eq10 w ↦ cc (w.rest-is) | else-c-eq10 w ↦ cc (w.rest-is) ] in
+    rw left (left_turns l.invariant _ _ _ _ _ (omega arith) c.requires.places some kept.0 kept.1 line)
 
-pub line_after-line-requires : goal.line_after-line-requires
-line_after-line-requires c = omega arith
+pub returns-clause-values : goal.returns-clause-values
+returns-clause-values c =
+    let e = left_ends c.loop-c.invariant (omega arith) c.requires.places in
+    rw (← e.0) e.2
 
-pub loop-k-preserved : goal.loop-k-preserved
-loop-k-preserved c =
-    let l = c.loop-k in
-    let h : l.k < length c.args.template.now = omega arith in
-    let f = says_value c.args.text.now _ c.in-Value.v c.in-Value.next (read_field (get_or c.args.template.now l.k 0) (drop l.at c.args.text.now)) c.in-Value.is c.token_at-t.ensures in
-    left_again (record { template = c.args.template.now; text = c.args.text.now; start = c.args.start; first = c.args.first }) l.at l.line l.n l.values l.k c.in-Value.v c.in-Value.next l.invariant h
-    c.is_hole-hole.result _ _ _ c.requires.1 f c.is_hole-hole.ensures c.with_value-more.ensures c.count_after-n.ensures c.line_after-line.ensures
+pub returns-clause-places : goal.returns-clause-places
+returns-clause-places c =
+    let e = left_ends c.loop-c.invariant (omega arith) c.requires.places in
+    rw (← e.0) e.3
 
-pub returns : goal.returns
-returns c =
-    let l = c.loop-k in
-    let h : length c.args.template.now ≤ l.k = omega arith in
-    let m : l.n ≡ holes c.args.template.now = none_left _ _ _ h l.invariant.2 in
-    let e = no_feeds_left c.args.template.now l.k l.line _ h l.invariant.5 in
-    let p = places_filled l.values l.n (omega (arith, m, c.requires.1)) l.invariant.4 l.invariant.6 in
-    answer_done c.args.text.now l.values l.at l.line _ l.n _ (read_ends c.args.template.now c.args.text.now (take l.n l.values) l.k l.line l.at _ l.invariant.0 h) l.invariant.1 e p
+pub returns-clause-line : goal.returns-clause-line
+returns-clause-line c =
+    (left_ends c.loop-c.invariant (omega arith) c.requires.places).1

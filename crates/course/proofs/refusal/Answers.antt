@@ -1,5 +1,0 @@
--- `course::refusal` meets its contract, by what its callee ensures.
-use Rattle.course.proofs.refusal.Goals as goal
-
-pub returns : goal.returns
-returns c = cc

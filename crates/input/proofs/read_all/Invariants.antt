@@ -1,0 +1,9 @@
+-- The bytes read lie in the buffer.
+use Rattle.std.proofs.Common.{◌-◌, ◌≤◌, length}
+use Rattle.input.proofs.read_all.Given as goal
+
+abbrev pub invariant-loop-at : goal.invariant-loop-at
+invariant-loop-at g l = l.at ≤ length l.text
+
+abbrev pub decreases-loop-at : goal.decreases-loop-at
+decreases-loop-at g l = length l.initial.text - l.at

@@ -1,2 +1,0 @@
-pub mod PeakLaws
-pub mod ShareLaws
