@@ -2,8 +2,10 @@
 // The status is 1 where a buffer is too short, and then nothing is written; else 0.
 #![tactic(auto)]
 
-ghost use Rattle.std.specs.Prelude.{◌≡◌, ◌<◌, ◌≤◌, length};
+ghost use Rattle.std.specs.Prelude.{◌≡◌, ◌<◌, ◌≤◌, length, get_or};
+ghost use Rattle.legendre.specs.Legendre.{legendre_of};
 ghost use Rattle.tail.specs.Tail.{tail_bound_of};
+ghost use Rattle.row.specs.Share.{row_used};
 
 use legendre::Pair;
 use objective::{Objective, Refused};
@@ -108,6 +110,7 @@ pub fn inner_row(
     ensures short_numbers { length out.old < 8 → result ≡ 1 }
     ensures short_counts { length counts.old < 3 → result ≡ 1 }
     ensures fits { 8 ≤ length out.old → 3 ≤ length counts.old → result ≡ 0 }
+    ensures count { 8 ≤ length out.old → 3 ≤ length counts.old → get_or counts.new 2 0 ≡ row_used 0 successes total legendre_of mean variance (record { 0 = limit }) }
 {
     if out.len() < 8 {
         return 1;
@@ -116,17 +119,14 @@ pub fn inner_row(
         return 1;
     }
     let rule = legendre::legendre();
-    let mut m = Meter {
-        used: QuadratureEvaluations(0),
-        limit: QuadratureEvaluations(limit),
-    };
+    let mut m = Meter::of(QuadratureEvaluations(limit));
     let r = row::row_objective(0, successes, total, &rule, mean, variance, &mut m);
-    let (v, c) = match r {
-        Ok(s) => (share_numbers(s), [0, 0, m.used.0]),
-        Err(e) => ([0.0; 8], [e.number(), e.reason(), m.used.0]),
+    let (v, ending) = match r {
+        Ok(s) => (share_numbers(s), [0, 0]),
+        Err(e) => ([0.0; 8], [e.number(), e.reason()]),
     };
     store::put(&v, out);
-    store::put(&c, counts);
+    store::put(&[ending[0], ending[1], m.used.0], counts);
     0
 }
 

@@ -1,8 +1,10 @@
 // The inner functions for comparisons from outside, in a static library.
 #![tactic(auto)]
 
-ghost use Rattle.std.specs.Prelude.{◌≡◌, ◌<◌, ◌≤◌, length};
+ghost use Rattle.std.specs.Prelude.{◌≡◌, ◌<◌, ◌≤◌, length, get_or};
+ghost use Rattle.legendre.specs.Legendre.{legendre_of};
 ghost use Rattle.tail.specs.Tail.{tail_bound_of};
+ghost use Rattle.row.specs.Share.{row_used};
 
 // Two numbers: the logarithm and the ratio.
 #[unsafe(no_mangle)]
@@ -60,6 +62,7 @@ pub extern "C" fn inner_row(
     ensures short_numbers { length out.old < 8 → result ≡ 1 }
     ensures short_counts { length counts.old < 3 → result ≡ 1 }
     ensures fits { 8 ≤ length out.old → 3 ≤ length counts.old → result ≡ 0 }
+    ensures count { 8 ≤ length out.old → 3 ≤ length counts.old → get_or counts.new 2 0 ≡ row_used 0 successes total legendre_of mean variance (record { 0 = limit }) }
 {
     inner::inner_row(mean, variance, successes, total, limit, out, counts)
 }

@@ -2,23 +2,39 @@
 ghost use Rattle.std.specs.Prelude.{◌≡◌, ◌*◌, ◌≤◌, length, take};
 ghost use Rattle.std.specs.Fn.{FnOnceReturnsAt};
 ghost use Rattle.litters.specs.Litters.{numbers_of};
-ghost use Rattle.litters.specs.Table.{lent_of, handed_on_of};
+ghost use Rattle.litters.specs.Table.{row_in, no_rows, with_rows, lent_of, numbers_for_of, handed_on_of};
 
 use crate::Litter;
 
-// The numbers of up to 128 litters, from the array's start on.
-fn numbers(litters: &[Litter]) -> [u32; 384]
-    requires { length litters.now ≤ 128 }
-    ensures { take (3 * length litters.now) result ≡ numbers_of litters.now }
+// A litter past the last row is left out.
+fn put_row(numbers: &mut [u32; 384], i: usize, litter: Litter)
+    ensures { numbers.new ≡ row_in numbers.old i litter.successes litter.total litter.group }
 {
-    let mut numbers = [0; 384];
-    for (i, litter) in litters.iter().enumerate() {
+    if i < 128 {
         let k = 3 * i;
         numbers[k] = litter.successes;
         numbers[k + 1] = litter.total;
         numbers[k + 2] = litter.group;
     }
+}
+
+// The numbers of 128 litters, three a litter: those of the first of them, and zeros behind.
+pub fn to_table(litters: &[Litter]) -> [u32; 384]
+    ensures { result ≡ with_rows litters.now 0 no_rows }
+{
+    let mut numbers = [0; 384];
+    for (i, litter) in litters.iter().enumerate() {
+        put_row(&mut numbers, i, *litter);
+    }
     numbers
+}
+
+// The numbers of up to 128 litters, from the table's start on.
+fn numbers(litters: &[Litter]) -> [u32; 384]
+    requires { length litters.now ≤ 128 }
+    ensures { take (3 * length litters.now) result ≡ numbers_of litters.now }
+{
+    to_table(litters)
 }
 
 // What `f` answers of the litters' numbers. More than 128 are refused as none are, so none go.
@@ -38,4 +54,12 @@ pub fn handed_on(n: usize) -> usize
     ensures within { result ≤ n }
 {
     if n / 3 <= 128 { n } else { 0 }
+}
+
+// How many of the table's numbers stand for n litters. More than 128 are refused as none are, so none do.
+pub fn numbers_for(n: usize) -> usize
+    ensures number { result ≡ numbers_for_of n }
+    ensures within { result ≤ 384 }
+{
+    if n <= 128 { 3 * n } else { 0 }
 }

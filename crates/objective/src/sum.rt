@@ -96,10 +96,7 @@ fn summed(
 {
     // By index: a litter is three of the numbers, and its place is its name.
     let n = litters.len() / 3;
-    let mut meter = Meter {
-        used: QuadratureEvaluations(0),
-        limit,
-    };
+    let mut meter = Meter::of(limit);
     let mut t = value::nothing();
     for i in 0..n {
         let number = i as u64 + 1;

@@ -58,7 +58,7 @@ pub fn tails() {
         goal: -1.0,
     };
     let mut m = crate::say::meter(8388608);
-    let r = h.bounded(&mut m);
+    let r = h.bounded(usual(), &mut m);
     crate::say::answer(b"3: goal -1", r, m);
     // Thirty doublings of so small a scale stay at the mode.
     let narrow = Mode {

@@ -15,10 +15,7 @@ fn line(name: &[u8], number: u64, reason: u64, used: u64) {
 
 // The whole limit, none of it used.
 pub fn meter(limit: u64) -> Meter {
-    Meter {
-        used: QuadratureEvaluations(0),
-        limit: QuadratureEvaluations(limit),
-    }
+    Meter::of(QuadratureEvaluations(limit))
 }
 
 // Of an answer only that there is one is shown.

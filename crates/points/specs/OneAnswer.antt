@@ -24,7 +24,7 @@ use Rattle.work.specs.declared.Meter.{Meter}
 use Rattle.work.specs.declared.Refusal.{Refusal}
 use Rattle.work.specs.Work.{Work, eval}
 use Rattle.work.specs.Answer.{Spent, leaves, by, Did}
-use Rattle.work.specs.Meter.{counts}
+use Rattle.work.specs.Meter.{counts, meter_of}
 use Rattle.work.specs.Refusal.{number_of, reason_of}
 use Rattle.normal.specs.declared.mills.LogMills.{LogMills}
 use Rattle.normal.specs.declared.twins.Twins.{Twins}
@@ -83,7 +83,7 @@ use Rattle.litters.specs.declared.Litter.{Litter}
 use Rattle.litters.specs.Litters.{count_of, row_at, row_litter, numbers_of}
 use Rattle.litters.specs.Valid.{valid_litter_of, each_valid_of, valid_litters_of}
 use Rattle.litters.specs.Groups.{of_group_of}
-use Rattle.litters.specs.Table.{lent_of, handed_on_of}
+use Rattle.litters.specs.Table.{no_rows, with_rows, numbers_for_of, lent_of, handed_on_of}
 
 pub one_answer : {A : Type 0} (definition r s : A) → r ≡ definition → s ≡ definition → r ≡ s
 one_answer definition r s e f = e ∙ sym f
@@ -160,6 +160,9 @@ of_work = (one1 _, one1 _, one1 _)
 pub of_meter : (m : Meter) (r s : Result (Unit {0}) Refusal) (n k : Meter) → counts m r n → counts m s k → (r ≡ s) × (n ≡ k)
 of_meter m r s n k p q = one_spent _ r s n k p q
 
+pub of_meter_of : One1 meter_of
+of_meter_of = one1 _
+
 pub of_normal : One1 log_phi_of × One1 normal_of × One2 mills_derivatives_of × One3 conditional_of × One2 ◌-◌ × One0 legendre_of
 of_normal = (one1 _, one1 _, one2 _, one3 _, one2 _, one0 _)
 
@@ -175,8 +178,8 @@ of_posterior = (one5 _, one1 _, one2 _, one2 _, one3 _, one2 _, one5 _)
 pub of_lent :
     ((p : Posterior) (z : Float) → OneDid at (eval (here p z))) ×
     ((p : Posterior) → OneDid at (ends (here p))) × ((p : Posterior) (e : Ends) → OneDid at (check_ends (here p) e)) × ((p : Posterior) (within : Ends) → OneDid at (peak (here p) within.left within.right)) ×
-    ((h : Hill) → OneDid at (span (here h.p) h)) × ((p : Posterior) (mode log delta : Float) → OneDid at (goal (here p) mode log delta))
-of_lent = (λ p z. one_did _ _, λ p. one_did _ _, λ p e. one_did _ _, λ p within. one_did _ _, λ h. one_did _ _, λ p mode log delta. one_did _ _)
+    ((p : Posterior) (h : Hill) → OneDid at (span (here p) h)) × ((p : Posterior) (mode log delta : Float) → OneDid at (goal (here p) mode log delta))
+of_lent = (λ p z. one_did _ _, λ p. one_did _ _, λ p e. one_did _ _, λ p within. one_did _ _, λ p h. one_did _ _, λ p mode log delta. one_did _ _)
 
 -- a litter's share: the mode, how far out, the sums of both sides, the integral by its rules, and the whole
 pub of_row :
@@ -211,8 +214,8 @@ of_fit = (one5 _, one3 _, one3 _, one6 _, one3 _, one2 _)
 pub of_why : One1 why_in × One1 stop_in × One1 kind_of × One1 test_number
 of_why = (one1 _, one1 _, one1 _, one1 _)
 
-pub of_litters : One3 valid_litter_of × One1 each_valid_of × One1 valid_litters_of × One2 of_group_of × One1 row_litter × One1 lent_of × One1 handed_on_of
-of_litters = (one3 _, one1 _, one1 _, one2 _, one1 _, one1 _, one1 _)
+pub of_litters : One3 valid_litter_of × One1 each_valid_of × One1 valid_litters_of × One2 of_group_of × One1 row_litter × One1 (λ (ls : List Litter). with_rows ls 0 no_rows) × One1 numbers_for_of × One1 lent_of × One1 handed_on_of
+of_litters = (one3 _, one1 _, one1 _, one2 _, one1 _, one1 _, one1 _, one1 _, one1 _)
 
 -- the rows of a lent run: as many, and the same
 abbrev pub Rows : List ℕ → List (List ℕ) → Type 0

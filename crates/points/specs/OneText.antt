@@ -1,5 +1,5 @@
 -- No second answer meets a contract over a text: what is read by a template, a request, a rendering, an answer, each with its lent buffer.
-use Rattle.std.specs.Prelude.{◌≡◌, refl, false, List, ℕ, ◌+◌, ◌≤◌, ◌<◌, ltb, length, take, Option, Some, None, MatchOption, Result}
+use Rattle.std.specs.Prelude.{◌≡◌, refl, false, List, ℕ, ◌+◌, ◌-◌, ◌≤◌, ◌<◌, ltb, length, take, Option, Some, None, MatchOption, Result}
 use Rattle.std.specs.Borrow.{Bor}
 use Rattle.std.proofs.Common.{sym, ◌∙◌, true≢false, ltb-true, ltb-false}
 use borrow.Table.Steps.{cases}
@@ -11,7 +11,7 @@ use Rattle.template.specs.declared.read.Form.{Form}
 use Rattle.template.specs.declared.read.Filled.{Filled}
 use Rattle.template.specs.Digits.{digits}
 use Rattle.template.specs.Template.{first, render}
-use Rattle.template.specs.Field.{is_digit_of, is_hex_of, Field}
+use Rattle.template.specs.Field.{is_digit_of, is_hex_of, hex_value_of, Field}
 use Rattle.template.specs.Says.{Digit, HexDigit, field_of}
 use Rattle.template.specs.OneAnswer.{said, Meets, one_read, one_digit, one_hex_digit}
 use Rattle.read.specs.Request.{read_request}
@@ -31,6 +31,9 @@ use Rattle.points.specs.OneAnswer.{One0, One1, One2, One3, One4, One5, one_answe
 abbrev pub seen : Option (ℕ × Bor (List ℕ)) → Option (ℕ × List ℕ)
 seen (Some p) = Some (p.0, p.1.now)
 seen None = None
+
+pub of_bytes : One1 is_digit_of × One1 is_hex_of × One1 hex_value_of × One1 (λ c. c - 48)
+of_bytes = (one1 _, one1 _, one1 _, one1 _)
 
 pub of_digit : (text : List ℕ) (r s : Option (ℕ × Bor (List ℕ))) → MatchOption r (is_digit_of (first text) ≡ false) (λ p. Digit text p.0 p.1.now) → MatchOption s (is_digit_of (first text) ≡ false) (λ p. Digit text p.0 p.1.now) → seen r ≡ seen s
 of_digit text (Some p) (Some q) a b = let e = one_digit text p.0 q.0 p.1.now q.1.now a b in rw (e.0, e.1)

@@ -1,27 +1,30 @@
 -- How many evaluations a litter's share makes at most, whatever their values: `AtMost k w` says that w never makes more than k.
 -- From it: the source's cap of 65,536 evaluations a litter never binds, and the count that the code reports is that of the evaluations made.
-use Rattle.std.specs.Prelude.{◌≡◌, refl, List, length, Err, Float}
+use Rattle.std.specs.Prelude.{◌≡◌, refl, List, length, Result, Err, Float}
 use Rattle.std.proofs.Common.{◌∙◌, arith}
-use Rattle.std.proofs.Math.Path.{ap}
-use Prim.Native.Nat.{ℕ, ◌+◌, ◌≤◌, min, zero-le}
-use Rattle.std.proofs.Math.Nat.{zero-add, sub-zero}
+use Rattle.std.proofs.Math.Path.{ap, sym}
+use Prim.Native.Nat.{ℕ, ◌+◌, ◌-◌, ◌≤◌, min, zero-le}
+use Rattle.std.proofs.Math.Nat.{zero-add, sub-zero, add-sub_cancel_left}
 use Rattle.std.specs.Float.Ieee.{eq}
 use Rattle.num.specs.F64.{zero·}
+use Rattle.work.specs.declared.Refusal.{Refusal}
 use Rattle.work.specs.declared.Refusal.TheVariants.{WorkBudget}
 use Rattle.work.specs.declared.QuadratureEvaluations.{QuadratureEvaluations}
+use Rattle.work.specs.declared.Meter.{Meter}
 use Rattle.work.specs.Ended.{Ended, done, stopped, short, invalid, domain}
 use Rattle.work.specs.Work.{◌>>=◌, metered, listed, listed_l}
 use Rattle.work.specs.Metered.{metered_is, within, short_at}
 use Rattle.work.specs.AtMost.{AtMost, rets, asks, either, both, at_most_listed}
-use Rattle.work.specs.Answer.{outcome, by}
+use Rattle.work.specs.Answer.{outcome, leaves, counted, spent, by, Did}
 use Rattle.work.specs.Impossible.{impossible}
-use Rattle.work.specs.Share.{cap}
+use Rattle.work.specs.Share.{cap, share as from_0}
 use Rattle.legendre.specs.declared.Pair.{Pair}
 use Rattle.posterior.specs.declared.integrand.Posterior.{Posterior}
 use Rattle.posterior.specs.Integrand.{Eval, at}
 use Rattle.mode.specs.Bound.{ends_at_most, check_ends_at_most, peak_at_most}
 use Rattle.tail.specs.Bound.{goal_at_most, span_at_most}
 use Rattle.quadrature.specs.Bound.{ten_at_most}
+use Rattle.row.specs.declared.share.Share.{Share}
 use Rattle.row.specs.Peak.{peaked, spanned}
 use Rattle.row.specs.Share.{spread, share, row_of, row_used}
 
@@ -92,3 +95,49 @@ module _ (litter successes total : ℕ) (rule : List Pair) (mean variance : Floa
   row_short limit e =
       let w = share litter successes total rule mean variance in
       short_at at limit.0 0 w zero-le (is_short (metered at limit.0 0 w).ended e)
+
+-- ---- of each call: it was lent the meter m, answered r and left the meter at n. Evaluations of other litters may stand on m.
+
+-- a limit that leaves no more than 65,536
+abbrev pub capped : Meter → Meter
+capped m = record { used = m.used; limit = record { 0 = m.used.0 + min (m.limit.0 - m.used.0) 65536 } }
+
+module _ (litter successes total : ℕ) (rule : List Pair) (mean variance : Float) (m n : Meter) (r : Result Share Refusal) (did : Did at (share litter successes total rule mean variance) m r n) where
+  left_used : n.used.0 ≡ m.used.0 + (metered at (m.limit.0 - m.used.0) 0 (share litter successes total rule mean variance)).used
+  unfolding by
+  left_used = ap (λ s. s.meter.used.0) did ∙ ap (λ t. t.used) (from_0 at (share litter successes total rule mean variance) m.limit.0 m.used.0)
+
+  -- the meter goes up by the evaluations made under what the limit left, and the limit stays
+  pub call_counts : n.used.0 ≡ m.used.0 + length (listed_l at (m.limit.0 - m.used.0) (share litter successes total rule mean variance))
+  unfolding by
+  call_counts = ap (λ s. s.meter.used.0) did ∙ ap (λ t. t.used) (metered_is at m.limit.0 m.used.0 (share litter successes total rule mean variance))
+
+  pub call_keeps : n.limit ≡ m.limit
+  unfolding by
+  call_keeps = ap (λ s. s.meter.limit) did
+
+  -- by no more than was left, and by no more than 32,933
+  pub call_within : n.used.0 ≤ m.used.0 + min (m.limit.0 - m.used.0) 32933
+  unfolding by
+  call_within =
+      let w = row_within litter successes total rule mean variance (record { 0 = m.limit.0 - m.used.0 }) in
+      rw left_used (omega (arith, w))
+
+  -- where the answer is WorkBudget, by all that was left
+  pub call_short : r ≡ Err WorkBudget → n.used.0 ≡ m.used.0 + (m.limit.0 - m.used.0)
+  unfolding by
+  call_short e =
+      let w = share litter successes total rule mean variance in
+      let left = m.limit.0 - m.used.0 in
+      let short : (metered at m.limit.0 m.used.0 w).ended ≡ short = is_short (metered at m.limit.0 m.used.0 w).ended (sym (ap (λ s. s.answer) did) ∙ e) in
+      left_used ∙ ap (λ k. m.used.0 + k) (short_at at left 0 w zero-le (sym (ap (λ t. t.ended) (from_0 at w m.limit.0 m.used.0)) ∙ short))
+
+  -- the source's cap of 65,536 evaluations a litter changes neither the answer nor the count
+  pub call_cap : Did at (share litter successes total rule mean variance) (capped m) r (record { used = n.used; limit = (capped m).limit })
+  unfolding by
+  call_cap =
+      let w = share litter successes total rule mean variance in
+      let left = m.limit.0 - m.used.0 in
+      let same : metered at (m.used.0 + min left 65536) m.used.0 w ≡ metered at m.limit.0 m.used.0 w =
+      rw (from_0 at w (m.used.0 + min left 65536) m.used.0, from_0 at w m.limit.0 m.used.0, add-sub_cancel_left m.used.0 (min left 65536), cap_never_binds litter successes total rule mean variance left) in
+      ap (λ s. leaves s.answer (counted (capped m) s.meter.used.0)) did ∙ ap (λ t. spent (capped m) t) (sym same)

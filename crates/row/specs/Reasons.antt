@@ -1,14 +1,16 @@
 -- A litter's share stops by itself for a reason from 1 to 5 alone. A refusal has no value beside it: an answer is a Result.
-use Rattle.std.specs.Prelude.{◌≡◌, List, ℕ, ◌≤◌, Err, Float}
+use Rattle.std.specs.Prelude.{◌≡◌, List, ℕ, ◌≤◌, Result, Err, Float}
 use Rattle.std.specs.Float.Ieee.{eq}
 use Rattle.num.specs.F64.{zero·}
-use Rattle.std.proofs.Common.{ap}
+use Rattle.std.proofs.Common.{ap, sym, ◌∙◌}
 use Rattle.work.specs.declared.Refusal.{Refusal}
 use Rattle.work.specs.declared.Refusal.TheVariants.{Domain}
 use Rattle.work.specs.declared.QuadratureEvaluations.{QuadratureEvaluations}
+use Rattle.work.specs.declared.Meter.{Meter}
 use Rattle.work.specs.Ended.{Ended, done, stopped, short, invalid, domain}
 use Rattle.work.specs.Impossible.{impossible}
-use Rattle.work.specs.Answer.{outcome, leaves, by}
+use Rattle.work.specs.Answer.{outcome, leaves, by, Did}
+use Rattle.work.specs.Meter.{meter_of}
 use Rattle.work.specs.Work.{◌>>=◌, metered}
 use Rattle.work.specs.Stops.{Stops, answers, hears, chosen, passed, Reasoned, of_metered}
 use Rattle.legendre.specs.declared.Pair.{Pair}
@@ -17,8 +19,9 @@ use Rattle.posterior.specs.Integrand.{Eval, at}
 use Rattle.mode.specs.Reasons.{ends_reasons, check_ends_reasons, peak_reasons}
 use Rattle.tail.specs.Reasons.{goal_reasons, span_reasons}
 use Rattle.quadrature.specs.Reasons.{rules_reasons}
+use Rattle.row.specs.declared.share.Share.{Share}
 use Rattle.row.specs.Peak.{peaked, spanned}
-use Rattle.row.specs.Share.{spread, share, meter_of, row_of}
+use Rattle.row.specs.Share.{spread, share, row_of}
 
 module _ (here : Float → Eval) where
   peaked_reasons : Stops (Reasoned 5) (peaked here)
@@ -53,3 +56,12 @@ module _ (litter successes total : ℕ) (rule : List Pair) (mean variance : Floa
   pub row_refused : (limit : QuadratureEvaluations) (e : Refusal) → row_of litter successes total rule mean variance limit ≡ Err e →
       (let w = by at (meter_of limit) (share litter successes total rule mean variance) in w ≡ leaves (Err e) w.meter)
   row_refused limit e h = ap (λ a. leaves a (by at (meter_of limit) (share litter successes total rule mean variance)).meter) h
+
+-- ---- of each call, which was lent the meter m, answered r and left the meter at n
+module _ (litter successes total : ℕ) (rule : List Pair) (mean variance : Float) (m n : Meter) (r : Result Share Refusal) (did : Did at (share litter successes total rule mean variance) m r n) where
+  pub call_domain : (reason : ℕ) → r ≡ Err (Domain reason) → (1 ≤ reason) × (reason ≤ 5)
+  unfolding by
+  call_domain reason e =
+      of_metered at m.limit.0 m.used.0 (domain reason)
+      (share_reasons litter successes total rule mean variance)
+      (is_domain (metered at m.limit.0 m.used.0 (share litter successes total rule mean variance)).ended reason (sym (ap (λ s. s.answer) did) ∙ e))

@@ -7,9 +7,9 @@ use Rattle.root.specs.Steps.{sqrt_of}
 use Rattle.elementary.specs.Log.{log_of}
 use Rattle.work.specs.declared.Refusal.{Refusal}
 use Rattle.work.specs.declared.QuadratureEvaluations.{QuadratureEvaluations}
-use Rattle.work.specs.declared.Meter.{Meter}
 use Rattle.work.specs.Work.{Work, ret, eval, ◌>>=◌}
 use Rattle.work.specs.Answer.{by}
+use Rattle.work.specs.Meter.{meter_of}
 use Rattle.coefficient.specs.Coefficient.{coefficient_of}
 use Rattle.legendre.specs.declared.Pair.{Pair}
 use Rattle.posterior.specs.declared.integrand.Posterior.{Posterior}
@@ -67,9 +67,6 @@ share litter successes total rule mean variance =
     (let p : Posterior = record { litter = litter; successes = successes; total = total; mean = mean; sd = sqrt_of variance } in spread (here p) rule p choose)
 
 -- ---- as code counts, from no evaluation on
-
-abbrev pub meter_of : QuadratureEvaluations → Meter
-meter_of limit = record { used = record { 0 = 0 }; limit = limit }
 
 -- the share or its refusal, and the evaluations made
 abbrev pub row_of : ℕ → ℕ → ℕ → List Pair → Float → Float → QuadratureEvaluations → Result Share Refusal

@@ -29,5 +29,5 @@ pub fn limits(p: Posterior, m: Mode, meter: &mut Meter) -> Result<Ends, Refusal>
         delta,
         goal,
     };
-    h.bounded(meter)
+    h.bounded(p, meter)
 }

@@ -96,13 +96,13 @@ impl Hill {
         b
     }
 
-    fn walk_out(self, side: Side, meter: &mut Meter) -> Result<Reach, Refusal>
-        ensures { Did at (started (here self.p) self side) meter.old result meter.new }
+    fn walk_out(self, p: Posterior, side: Side, meter: &mut Meter) -> Result<Reach, Refusal>
+        ensures { Did at (started (here p) self side) meter.old result meter.new }
     {
         let mut z = side.outward(self.mode, self.delta);
         let mut bound = None;
         for j in 0..30u32 {
-            let v = self.p.evaluate(z, meter)?;
+            let v = p.evaluate(z, meter)?;
             bound = self.bound_after(side, bound, z, v.log, v.slope);
             if within(bound, self.goal) {
                 return Ok(Reach { z, bound });
@@ -112,12 +112,12 @@ impl Hill {
         Ok(Reach { z, bound })
     }
 
-    // The ends of the integral, where both sides are bounded.
-    pub fn bounded(self, meter: &mut Meter) -> Result<Ends, Refusal>
-        ensures { Did at (span (here self.p) self) meter.old result meter.new }
+    // The ends of the integral, where both sides are bounded. Evaluated is `p`; the bound takes the hill's own numbers.
+    pub fn bounded(self, p: Posterior, meter: &mut Meter) -> Result<Ends, Refusal>
+        ensures { Did at (span (here p) self) meter.old result meter.new }
     {
-        let l = self.walk_out(Side::Left, meter)?;
-        let r = self.walk_out(Side::Right, meter)?;
+        let l = self.walk_out(p, Side::Left, meter)?;
+        let r = self.walk_out(p, Side::Right, meter)?;
         if both_closed(l.bound, r.bound, self.goal) {
             return Ok(Ends {
                 left: l.z,

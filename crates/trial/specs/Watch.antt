@@ -1,6 +1,6 @@
 -- The trial that is looked for: what a watch has kept of the trials so far, the newest first, and how many are still to come before it. Beside it, where the search stands.
 use Rattle.std.specs.Prelude.{◌≡◌, refl, false, cond, List, [], ◌∷◌, ℕ, ◌-◌, ◌≤◌, ◌<◌, ◌==◌, ltb, length, Some, None}
-use Rattle.std.proofs.Common.{◌∙◌, rules, arith, ltb-true, ltb-false}
+use Rattle.std.proofs.Common.{ap, ◌∙◌, rules, arith, ltb-true, ltb-false}
 use Rattle.work.specs.Metered.{split}
 use Rattle.descent.specs.declared.Trial.{Trial}
 use Rattle.descent.specs.declared.Trial.TheVariants.{NotDownhill, NotMoved, TooLittle, ByDecrease, ByRounding, CutOff}
@@ -41,17 +41,17 @@ trial_at n (t ∷ ts) = cond (ltb (length ts) n) t (trial_at n ts)
 not_one : (n : ℕ) → 2 ≤ n → (n == 1) ≡ false
 not_one n h = search rules
 
-past : (t : Trial) (w : Watch) → w.left ≡ 0 → (noted_of t w).kept ≡ w.kept
+past : (t : Trial) (w : Watch) → w.left ≡ 0 → noted_of t w ≡ record { left = w.left; kept = w.kept; since = by_newest_of t }
 unfolding noted_of
 past t w h = rw h
 
-hit : (t : Trial) (w : Watch) → w.left ≡ 1 → (noted_of t w).kept ≡ Some t
+hit : (t : Trial) (w : Watch) → w.left ≡ 1 → noted_of t w ≡ record { left = 0; kept = Some t; since = by_newest_of t }
 unfolding noted_of
 hit t w h = rw h
 
-coming : (t : Trial) (w : Watch) → 2 ≤ w.left → (noted_of t w).kept ≡ w.kept
+counts : (t : Trial) (w : Watch) → 2 ≤ w.left → noted_of t w ≡ record { left = w.left - 1; kept = w.kept; since = by_newest_of t }
 unfolding noted_of
-coming t w h = rw (not_one w.left h)
+counts t w h = rw (not_one w.left h)
 
 one_less : (t : Trial) (w : Watch) → (noted_of t w).left ≡ w.left - 1
 unfolding noted_of
@@ -70,22 +70,29 @@ watch_kept n [] h k = absurd (omega arith)
 watch_kept n (t ∷ ts) h k =
     let e = watch_left n ts in
     split (ltb (length ts) n)
-    (λ b. let z : (watch_of n ts).left ≡ 1 = omega (arith, ltb-true (length ts) n b) in rw b (hit t (watch_of n ts) z))
-    (λ b. let z : (watch_of n ts).left ≡ 0 = omega (arith, ltb-false (length ts) n b) in rw (b, past t (watch_of n ts) z) (watch_kept n ts h (ltb-false (length ts) n b)))
+    (λ b. let z : (watch_of n ts).left ≡ 1 = omega (arith, ltb-true (length ts) n b) in rw b (ap (λ w. w.kept) (hit t (watch_of n ts) z)))
+    (λ b. let z : (watch_of n ts).left ≡ 0 = omega (arith, ltb-false (length ts) n b) in rw b (ap (λ w. w.kept) (past t (watch_of n ts) z) ∙ watch_kept n ts h (ltb-false (length ts) n b)))
 
 -- before, nothing is kept; and of number 0 there is none
 pub watch_none : (ts : List Trial) → (watch_of 0 ts).kept ≡ None
 unfolding watch_of
 watch_none [] = refl
-watch_none (t ∷ ts) = past t (watch_of 0 ts) (watch_left 0 ts ∙ omega arith) ∙ watch_none ts
+watch_none (t ∷ ts) = ap (λ w. w.kept) (past t (watch_of 0 ts) (watch_left 0 ts ∙ omega arith)) ∙ watch_none ts
 
 pub watch_coming : (n : ℕ) (ts : List Trial) → length ts < n → (watch_of n ts).kept ≡ None
 unfolding watch_of
 watch_coming n [] h = refl
-watch_coming n (t ∷ ts) h = coming t (watch_of n ts) (let e = watch_left n ts in omega arith) ∙ watch_coming n ts (omega arith)
+watch_coming n (t ∷ ts) h =
+    let e = watch_left n ts in
+    let k : 2 ≤ (watch_of n ts).left = omega arith in
+    ap (λ w. w.kept) (counts t (watch_of n ts) k) ∙ watch_coming n ts (omega arith)
 
 -- where the search stands
+noted_since : (t : Trial) (w : Watch) → (noted_of t w).since ≡ by_newest_of t
+unfolding noted_of
+noted_since t w = refl
+
 pub watch_since : (n : ℕ) (ts : List Trial) → (watch_of n ts).since ≡ since_in ts
 unfolding watch_of
 watch_since n [] = refl
-watch_since n (t ∷ ts) = unfold noted_of in refl
+watch_since n (t ∷ ts) = noted_since t (watch_of n ts)

@@ -2,7 +2,7 @@
 #![tactic(auto)]
 
 ghost use Rattle.std.specs.Prelude.{◌≡◌};
-ghost use Rattle.work.specs.Meter.{counts};
+ghost use Rattle.work.specs.Meter.{counts, meter_of};
 ghost use Rattle.work.specs.Refusal.{number_of, reason_of};
 
 // Why there is no answer. A `Domain` carries its reason, 1 to 6: a number, as the definitions' `domain` and the theorems
@@ -54,6 +54,16 @@ pub struct Meter {
 }
 
 impl Meter {
+    // No evaluation made yet.
+    pub fn of(limit: QuadratureEvaluations) -> Meter
+        ensures { result ≡ meter_of limit }
+    {
+        Meter {
+            used: QuadratureEvaluations(0),
+            limit,
+        }
+    }
+
     // One more, where the limit leaves it.
     pub fn count(&mut self) -> Result<(), Refusal>
         ensures { counts self.old result self.new }

@@ -9,7 +9,7 @@ use Rattle.objective.proofs.sum.summed.Goals as goal
 
 pub loop-i-init : goal.loop-i-init
 unfolding summed_of
-loop-i-init c = rw (c.nothing-t.ensures, sub-zero (length c.args.litters.now / 3))
+loop-i-init c = rw (c.nothing-t.ensures, c.of-meter.ensures, sub-zero (length c.args.litters.now / 3))
 
 pub returns-in-Err : goal.returns-in-Err
 returns-in-Err c = rw (← c.loop-i.invariant, left_one (length c.args.litters.now / 3) c.loop-i.i c.loop-i-test.true) (sym (row_refused _ _ _ _ _ _ _ _ _ c.in-Err.ensures))

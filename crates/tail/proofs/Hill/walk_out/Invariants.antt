@@ -6,4 +6,4 @@ use Rattle.tail.specs.Tail.{started, walk}
 use Rattle.tail.proofs.Hill.walk_out.Given as goal
 
 abbrev pub invariant-loop-j : goal.invariant-loop-j
-invariant-loop-j l = by at l.meter (walk (here l.self.p) l.self l.side (30 - l.j) l.j l.z l.bound) ≡ by at l.fn.meter (started (here l.self.p) l.self l.side)
+invariant-loop-j l = by at l.meter (walk (here l.p) l.self l.side (30 - l.j) l.j l.z l.bound) ≡ by at l.fn.meter (started (here l.p) l.self l.side)

@@ -10,7 +10,8 @@ use Rattle.template.proofs.read.read.Goals as goal
 pub returns-in_default-clause-departs : goal.returns-in_default-clause-departs
 returns-in_default-clause-departs c =
     let none : departs ≡ read_field (get_or c.args.template.now c.loop-c.c-index 0) c.loop-c.rest.now = search rules in
-    left_departs c.loop-c.invariant (omega arith) none
+    let d = left_departs c.loop-c.invariant (omega arith) none in
+    search (rules, d)
 
 pub bounds-values-n : goal.bounds-values-n
 bounds-values-n c =
