@@ -1,4 +1,4 @@
--- The answers for `inner_row`: the third count is what is left on the meter.
+-- The answers for `inner_row`: the third count is what stands on the meter.
 use Rattle.std.proofs.Common.{ap}
 use Rattle.store.specs.Stored.{stored}
 use Rattle.inner.proofs.inner_row.Goals as goal
