@@ -18,7 +18,8 @@ fn totals_hold(archive: &Archive, i: usize, counts: Counts) -> bool
     if i % 64 != 0 {
         return true;
     }
-    counts == archive.totals(i / 64)
+    let totals = archive.totals(i / 64);
+    counts == totals
 }
 
 fn holds(archive: &Archive) -> bool

@@ -1,5 +1,5 @@
 -- The laws that the proofs of the sum search by: r is what the code answers.
-use Rattle.std.specs.Prelude.{◌≡◌, true, false, List, ℕ, zero, suc, ◌+◌, Some, Result, Ok, Err, Float}
+use Rattle.std.specs.Prelude.{◌≡◌, true, false, List, ℕ, zero, suc, ◌+◌, Option, Some, Result, Ok, Err, Float}
 use Rattle.std.proofs.Common.{ap, sym, ◌∙◌}
 use Rattle.work.specs.declared.Refusal.{Refusal}
 use Rattle.work.specs.declared.Refusal.TheVariants.{WorkBudget}
@@ -17,10 +17,13 @@ use Rattle.row.specs.declared.share.Share.{Share}
 use Rattle.value.specs.declared.Totals.{Totals}
 use Rattle.litters.specs.Litters.{group_at}
 use Rattle.litters.specs.Valid.{valid_litters_of}
+use Rattle.objective.specs.declared.sum.Objective.{Objective}
+use Rattle.objective.specs.declared.sum.Refused.{Refused}
+use Rattle.objective.specs.declared.sum.Named.{Named}
 use Rattle.objective.specs.Point.{valid_point_of}
 use Rattle.objective.specs.Totals.{index_of, with_share, finite_totals}
 use Rattle.objective.specs.Objective.{share_at, ended_of}
-use Rattle.objective.specs.Named.{Litter, asked_rows, asked, named_of, invalid_of, at_no_litter, told_named, named_from, summed_of, named_objective_of}
+use Rattle.objective.specs.Named.{Litter, asked_rows, asked, named_of, invalid_of, at_litter, at_no_litter, told_named, named_from, summed_of, named_objective_of}
 
 -- what is known of a computation that code did: by its answer, its ending and its count
 module _ {E X A : Type 0} (at : E → X) (w : Work E X A) (m q : Meter) where
@@ -61,9 +64,14 @@ module _ (rule : List Pair) (x : List Float) (ls : List ℕ) (m q : Meter) (n i 
       let c = counts at (share_at rule x ls i) m q (Ok s) d in
       rw (a, c.1, c.0)
 
+-- a refusal in hand, by the litter at which it came
+pub refusal_placed : (litter : Option ℕ) (o : Result Objective Refused) (a w : Result Objective Named) (r : Refused) → a ≡ at_litter litter o → w ≡ Err (record { refused = r; litter = litter }) → o ≡ Err r → a ≡ w
+unfolding at_litter
+refusal_placed litter o a w r e f h = rw f (rw h at e)
+
 -- past the last
 pub rows_end : (rule : List Pair) (x : List Float) (ls : List ℕ) (m : Meter) (i : ℕ) (t : Totals) → named_from rule x ls m zero i t ≡ at_no_litter (ended_of m.used.0 t)
-unfolding named_from asked_rows driven ended_of
+unfolding named_from asked_rows driven ended_of at_litter
 rows_end rule x ls m i t = split (finite_totals t) (λ b. rw b) (λ b. rw b)
 
 module _ (rule : List Pair) (x : List Float) (ls : List ℕ) (limit : QuadratureEvaluations) where

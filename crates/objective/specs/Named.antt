@@ -77,9 +77,13 @@ named_of e n litter = record { refused = refused_of e n; litter = litter }
 abbrev pub invalid_of : Named
 invalid_of = named_of InvalidInput 0 None
 
+-- a refusal by the litter at which it came
+unfoldable pub at_litter : Option ℕ → Result Objective Refused → Result Objective Named
+at_litter litter (Ok o) = Ok o
+at_litter litter (Err r) = Err (record { refused = r; litter = litter })
+
 abbrev pub at_no_litter : Result Objective Refused → Result Objective Named
-at_no_litter (Ok o) = Ok o
-at_no_litter (Err r) = Err (record { refused = r; litter = None })
+at_no_litter o = at_litter None o
 
 -- with n evaluations made
 abbrev pub told_open : Result Totals Refusal → ℕ → Open Litter → Result Objective Named

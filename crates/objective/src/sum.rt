@@ -3,7 +3,7 @@ ghost use Rattle.std.specs.Prelude.{◌≡◌, ◌+◌, ◌*◌, ◌<◌, length
 ghost use Rattle.work.specs.Answer.{Did};
 ghost use Rattle.posterior.specs.Integrand.{at};
 ghost use Rattle.objective.specs.Objective.{ended_of, share_at, limited_objective_of, objective_of};
-ghost use Rattle.objective.specs.Named.{invalid_of, at_no_litter as unplaced, summed_of, named_objective_of};
+ghost use Rattle.objective.specs.Named.{invalid_of, at_litter as placed, summed_of, named_objective_of};
 
 use legendre::Pair;
 use row::Share;
@@ -57,15 +57,14 @@ fn invalid() -> Named
     }
 }
 
-fn at_no_litter(o: Result<Objective, Refused>) -> Result<Objective, Named>
-    ensures { result ≡ unplaced o }
+// A refusal by the litter at which it came, where it came at one.
+#[tactic(auto, unfolding(crate::specs::Named::at_litter))]
+fn at_litter(litter: Option<u64>, o: Result<Objective, Refused>) -> Result<Objective, Named>
+    ensures { result ≡ placed litter o }
 {
     match o {
         Ok(o) => Ok(o),
-        Err(refused) => {
-            let litter = None;
-            Err(Named { refused, litter })
-        }
+        Err(refused) => Err(Named { refused, litter }),
     }
 }
 
@@ -105,7 +104,7 @@ fn summed(
                 let used = meter.used;
                 let refused = Refused { refusal, used };
                 let litter = Some(number);
-                return Err(Named { refused, litter });
+                return at_litter(litter, Err(refused));
             }
             Ok(s) => {
                 let g = crate::totals::index(litters[3 * i + 2]);
@@ -114,7 +113,7 @@ fn summed(
             }
         }
     }
-    at_no_litter(ended(meter.used.0, t))
+    at_litter(None, ended(meter.used.0, t))
 }
 
 // The rule is computed once and passed on: the source computes it at each call, to the same bits.

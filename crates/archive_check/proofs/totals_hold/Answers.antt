@@ -6,4 +6,4 @@ pub returns-then-i-ne0 : goal.returns-then-i-ne0
 returns-then-i-ne0 c = search no_totals_lem
 
 pub returns : goal.returns
-returns c = some_totals _ _ _ _ _ c.if-i-ne0.false c.totals.ensures.value (same_is _ _ _ c.eq.ensures)
+returns c = some_totals _ _ _ _ _ c.if-i-ne0.false c.totals-totals.ensures.value (same_is _ _ _ c.eq.ensures)

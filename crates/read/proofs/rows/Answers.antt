@@ -3,7 +3,7 @@ use Rattle.std.proofs.Common.{◌≡◌, sym, ap, ◌∙◌, ◌+◌, ◌<◌, a
 use Rattle.template.specs.Template.{holes}
 use Rattle.read.specs.Request.{litter}
 use Rattle.read.specs.Rows.{departed_of}
-use Rattle.read.proofs.Laws.{litter_small, row_read, row_filled, row_last, last_filled, rows_end, filled_end}
+use Rattle.read.proofs.Laws.{litter_small, row_read, row_filled, last_place, row_last, last_filled, rows_end, filled_end}
 use Rattle.read.proofs.rows.Goals as goal
 
 pub read-requires-clause-places : goal.read-requires-clause-places
@@ -14,7 +14,7 @@ pub returns-in_default-clause-value : goal.returns-in_default-clause-value
 unfolding litter holes
 returns-in_default-clause-value c vs =
     let l = c.loop-n in
-    c.last.ensures vs ∙ (rw (row_last l.rest.now l.n _ c.in_default.ensures.departs vs c.args.start (omega arith)) at (l.invariant.reads vs))
+    c.last.ensures vs ∙ last_place l.rest.now l.n vs _ c.args.start (omega arith) ∙ (rw (row_last l.rest.now l.n _ c.in_default.ensures.departs vs c.args.start (omega arith)) at (l.invariant.reads vs))
 
 pub returns-in_default-clause-filled : goal.returns-in_default-clause-filled
 unfolding litter holes
