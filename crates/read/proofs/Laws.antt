@@ -86,7 +86,7 @@ module _ (text : List ℕ) (n : ℕ) where
     unfolding fill_rows
     row_filled b l = rw (left_one 8192 n l, h) (ap (λ x. fill_rows (8192 - (n + 1)) (n + 1) x rest) (put_taken b v n))
 
-  -- the last line, held against a place that is that of the first litter's line
+  -- the last line, held against a place that is the one where the lines begin
   pub last_place : (vs : List ℕ) (s start : ℕ) → s ≡ start → asking_of n (read_last vs (8 + n) s n (read closing (8 + n) text)) ≡ asking_of n (read_last vs (8 + n) start n (read closing (8 + n) text))
   last_place vs s start e = rw e
 
