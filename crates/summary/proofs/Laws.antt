@@ -1,7 +1,8 @@
 -- The laws of adding counts.
-use Rattle.std.specs.Prelude.{◌≡◌, Bool, true, false, List, ℕ, ◌<◌, length, Ok, Err}
-use Rattle.std.proofs.Common.{sym, ◌∙◌, zero-add, add-zero, add_assoc, arith}
+use Rattle.std.specs.Prelude.{◌≡◌, Bool, true, false, List, ℕ, ◌<◌, length, get_or, take, Ok, Err}
+use Rattle.std.proofs.Common.{sym, ◌∙◌, subst, take_all, zero-add, add-zero, add_assoc, arith}
 use Rattle.work.specs.declared.Refusal.TheVariants.{InvalidInput}
+use Rattle.litters.specs.Litters.{count_of, row_at}
 use Rattle.litters.specs.Valid.{valid_litters_of}
 use Rattle.litters.specs.Checks.{at_most_128}
 use Rattle.summary.specs.declared.GroupCounts.{GroupCounts}
@@ -15,6 +16,10 @@ plus_none a = simp add-zero
 
 pub none_plus : (a : GroupCounts) → plus_of no_counts a ≡ a
 none_plus a = simp zero-add
+
+-- the rows of ms, which is the whole of ls
+pub rows_of : (ls ms : List ℕ) (rows : List (List ℕ)) → length rows ≡ count_of ms → ((i : ℕ) (none : List ℕ) → i < count_of ms → get_or rows i none ≡ row_at ms i) → ms ≡ take (length ls) ls → (length rows ≡ count_of ls) × ((i : ℕ) (none : List ℕ) → i < count_of ls → get_or rows i none ≡ row_at ls i)
+rows_of ls ms rows c e h = subst (λ x. (length rows ≡ count_of x) × ((i : ℕ) (none : List ℕ) → i < count_of x → get_or rows i none ≡ row_at x i)) (h ∙ take_all (length ls) ls (omega arith)) (c, e)
 
 module _ (ls : List ℕ) (t : Bool) (e : t ≡ valid_litters_of ls) where
   -- valid litters are few enough to count

@@ -10,7 +10,7 @@ use step::Region;
 use work::QuadratureEvaluations;
 
 // Of a request that passed its checks.
-#[tactic(auto, unfolding(crate::specs::Vet::placed_of))]
+#[tactic(auto, unfolding(crate::specs::Vet::placed_of, objective::specs::Objective::objective_of))]
 fn placed(r: Request, litters: &[u32], c: Claim) -> Result<Vetted, Refused>
     ensures { result ≡ placed_of r litters.now c }
 {

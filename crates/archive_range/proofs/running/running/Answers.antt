@@ -17,8 +17,8 @@ loop-i-preserved c =
     let l = c.loop-i in
     record {
       below = c.with-counts.ensures.grown (l.i + 1) l.invariant.below;
-      sum = fold_turns _ _ _ _ _ l.invariant.sum _ c.loop-i-test.true (c.with-counts.ensures.counts ∙ rw c.litter.ensures);
+      sum = fold_turns _ _ _ _ _ l.invariant.sum _ (omega (arith, c.loop-i-test.true)) (c.with-counts.ensures.counts ∙ rw c.litter.ensures);
     }
 
 pub returns : goal.returns
-returns c = fold_ends _ _ _ _ _ c.loop-i.invariant.sum c.loop-i-test.false
+returns c = fold_ends _ _ _ _ _ c.loop-i.invariant.sum (omega (arith, c.loop-i-test.false))
