@@ -17,9 +17,13 @@ plus_none a = simp add-zero
 pub none_plus : (a : GroupCounts) → plus_of no_counts a ≡ a
 none_plus a = simp zero-add
 
--- the rows of ms, which is the whole of ls
-pub rows_of : (ls ms : List ℕ) (rows : List (List ℕ)) → length rows ≡ count_of ms → ((i : ℕ) (none : List ℕ) → i < count_of ms → get_or rows i none ≡ row_at ms i) → ms ≡ take (length ls) ls → (length rows ≡ count_of ls) × ((i : ℕ) (none : List ℕ) → i < count_of ls → get_or rows i none ≡ row_at ls i)
-rows_of ls ms rows c e h = subst (λ x. (length rows ≡ count_of x) × ((i : ℕ) (none : List ℕ) → i < count_of x → get_or rows i none ≡ row_at x i)) (h ∙ take_all (length ls) ls (omega arith)) (c, e)
+-- the rows are those of the run
+abbrev pub RowsOf : List ℕ → List (List ℕ) → Type 0
+RowsOf ls rows = (length rows ≡ count_of ls) × ((i : ℕ) (none : List ℕ) → i < count_of ls → get_or rows i none ≡ row_at ls i)
+
+-- of a run that is the whole of ls
+pub rows_of : (ls ms : List ℕ) (rows : List (List ℕ)) → RowsOf ms rows → ms ≡ take (length ls) ls → RowsOf ls rows
+rows_of ls ms rows r h = subst (λ x. RowsOf x rows) (h ∙ take_all (length ls) ls (omega arith)) r
 
 module _ (ls : List ℕ) (t : Bool) (e : t ≡ valid_litters_of ls) where
   -- valid litters are few enough to count
